@@ -1,0 +1,47 @@
+-- The greatest common divisor and the least common multiple, of two numbers and of a list.
+-- That they are what their names say is proved in proofs/Divide.antt.
+use Prim.Native.Nat.{ℕ, zero, suc, _*_, _/_, _%_, _∣_}
+use mathlib.Core.List.{List, [], _∷_}
+
+-- Euclid's rule, at most `calls` deep
+unfoldable pub euclid : ℕ → ℕ → ℕ → ℕ
+euclid zero a b = a
+euclid (suc calls) a zero = a
+euclid (suc calls) a (suc b) = euclid calls (suc b) (a % suc b)
+
+-- the second number falls at each call, so that b + 1 calls are enough
+unfoldable pub gcd : ℕ → ℕ → ℕ
+gcd a b = euclid (suc b) a b
+
+unfoldable pub lcm : ℕ → ℕ → ℕ
+lcm a b = a / gcd a b * b
+
+-- of a list, taken in from the front; every number divides 0, and 1 divides every number
+unfoldable pub gcdFrom : ℕ → List ℕ → ℕ
+gcdFrom g [] = g
+gcdFrom g (a ∷ l) = gcdFrom (gcd g a) l
+
+abbrev pub gcdOf : List ℕ → ℕ
+gcdOf = gcdFrom 0
+
+unfoldable pub lcmFrom : ℕ → List ℕ → ℕ
+lcmFrom h [] = h
+lcmFrom h (a ∷ l) = lcmFrom (lcm h a) l
+
+abbrev pub lcmOf : List ℕ → ℕ
+lcmOf = lcmFrom 1
+
+-- P holds of each number of the list
+abbrev pub Each : (ℕ → Type 0) → List ℕ → Type 0
+Each P [] = Unit
+Each P (a ∷ l) = P a × Each P l
+
+-- g divides each number of l, and whatever divides each of them divides g
+pub record IsGcd (l : List ℕ) (g : ℕ) : Type 0 where
+  pub divides : Each (λ a. g ∣ a) l
+  pub greatest : (d : ℕ) → Each (λ a. d ∣ a) l → d ∣ g
+
+-- each number of l divides h, and h divides whatever each of them divides
+pub record IsLcm (l : List ℕ) (h : ℕ) : Type 0 where
+  pub multiple : Each (λ a. a ∣ h) l
+  pub least : (m : ℕ) → Each (λ a. a ∣ m) l → h ∣ m

@@ -1,0 +1,2 @@
+pub mod Divide
+pub mod Little
