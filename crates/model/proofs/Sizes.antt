@@ -1,13 +1,13 @@
 -- What the sizes of an accepted sheet's machines give: the divisor divides each period, and each period divides H.
 -- Assumes nothing.
 use Prim.Native.Nat.{ℕ, zero, suc, _≤_, _<_, _∣_}
-use mathlib.Core.Path.{_≡_}
-use mathlib.Core.List.{List, [], _∷_, _++_, map}
+use mathlib.Core.List.{List, [], _∷_, map}
 use native.Mathlib.Omega.{arith}
 use native.Mathlib.Nat.{not-suc-le-zero, le-of-suc-le-suc}
 use lib.ListN.{length, getD}
 use Rattle.number.specs.Divide.{Each, gcdOf, lcmOf}
-use Rattle.number.proofs.Divide.{gcdOf-is, lcmOf-is, lcmFrom-positive}
+use Rattle.number.proofs.Divide.{gcdOf-is, lcmOf-is, lcms-positive}
+use Rattle.number.proofs.Each.{each-append, each-left, each-right}
 use Rattle.model.specs.Machine.{Machine, Action, count, actionOf, machineOf, periods, divisor, allPeriods, hyperperiod}
 use Rattle.model.specs.Sizes.{MachineSizes, Sizes}
 
@@ -20,18 +20,6 @@ each-at P (a ∷ l) d h (suc k) b = each-at P l d (h .1) k (le-of-suc-le-suc b)
 each-from : (P : ℕ → Type 0) (l : List Action) (d : Action) → ((k : ℕ) → k < length l → P (getD l k d .period)) → Each P (map (λ a. a .period) l)
 each-from P [] d h = tt
 each-from P (a ∷ l) d h = (h 0 (omega arith), each-from P l d (λ k b. h (suc k) (omega arith)))
-
-each-append : (P : ℕ → Type 0) (xs ys : List ℕ) → Each P xs → Each P ys → Each P (xs ++ ys)
-each-append P [] ys h g = g
-each-append P (x ∷ xs) ys (p, h) g = (p, each-append P xs ys h g)
-
-each-left : (P : ℕ → Type 0) (xs ys : List ℕ) → Each P (xs ++ ys) → Each P xs
-each-left P [] ys h = tt
-each-left P (x ∷ xs) ys (p, h) = (p, each-left P xs ys h)
-
-each-right : (P : ℕ → Type 0) (xs ys : List ℕ) → Each P (xs ++ ys) → Each P ys
-each-right P [] ys h = h
-each-right P (x ∷ xs) ys (p, h) = each-right P xs ys h
 
 -- of all periods in the sheet, and of those of machine i
 all-at : (P : ℕ → Type 0) (ms : List Machine) → Each P (allPeriods ms) → (i : ℕ) → i < length ms → Each P (periods (machineOf ms i))
@@ -60,7 +48,7 @@ module _ (ms : List Machine) (sizes : Sizes ms) where
 
   pub hyperperiod-positive : 0 < hyperperiod ms
   unfolding hyperperiod
-  hyperperiod-positive = lcmFrom-positive 1 (allPeriods ms) (omega arith) positive
+  hyperperiod-positive = lcms-positive 1 (allPeriods ms) (omega arith) positive
 
   -- each period in the sheet divides H
   pub period-divides-hyperperiod : (i k : ℕ) → i < length ms → k < count (machineOf ms i) → actionOf (machineOf ms i) k .period ∣ hyperperiod ms

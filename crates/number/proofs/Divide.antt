@@ -2,12 +2,12 @@
 -- Assumes nothing.
 use Prim.Native.Nat.{ℕ, zero, suc, _+_, _-_, _*_, _/_, _%_, _≤_, _<_, _∣_}
 use mathlib.Core.Path.{_≡_, refl, sym, _∙_, ap, subst}
-use mathlib.Core.List.{List, [], _∷_}
+use mathlib.Core.List.{List, [], _∷_, _++_}
 use native.Mathlib.Nat.{mod-lt, zero-lt-suc, le-refl, le-trans, not-suc-le-zero, mod-def, le-of-dvd}
 use native.Mathlib.Nat.{dvd-refl, dvd-zero, dvd-trans, dvd-mod-iff, dvd-mul-left, mul-dvd-mul, mul-dvd-mul-left, dvd-of-mul-dvd-mul-right, pos-of-dvd-of-pos, one-dvd}
 use native.Mathlib.Nat.{mul-assoc, mul-comm, mul-sub, mul-zero, zero-mul, mul-pos, mul-right-comm, mul-div-mul-left, div-mul-cancel}
 use native.Mathlib.Omega.{arith}
-use Rattle.number.specs.Divide.{euclid, gcd, lcm, gcdFrom, gcdOf, lcmFrom, lcmOf, Each, IsGcd, IsLcm}
+use Rattle.number.specs.Divide.{euclid, gcd, lcm, fold, gcdOf, lcmOf, Each, IsGcd, IsLcm}
 
 -- more calls than enough change nothing
 euclid-calls : (k l a b : ℕ) → b < k → b < l → euclid k a b ≡ euclid l a b
@@ -124,64 +124,65 @@ module _ (a b : ℕ) (positive : 0 < a) where
       mul-factor-positive zero y l = absurd (omega (arith, zero-mul y))
       mul-factor-positive (suc x) y l = zero-lt-suc x
 
-each-map : {P Q : ℕ → Type 0} → ((a : ℕ) → P a → Q a) → (l : List ℕ) → Each P l → Each Q l
-each-map f [] h = tt
-each-map f (a ∷ l) (h, hs) = (f a h, each-map f l hs)
+pub fold-append : (f : ℕ → ℕ → ℕ) (x : ℕ) (l k : List ℕ) → fold f x (l ++ k) ≡ fold f (fold f x l) k
+unfolding fold
+fold-append f x [] k = refl
+fold-append f x (a ∷ l) k = fold-append f (f x a) l k
 
 -- of a list: what was taken in already, and what is left
-gcdFrom-start : (g : ℕ) (l : List ℕ) → gcdFrom g l ∣ g
-unfolding gcdFrom
-gcdFrom-start g [] = dvd-refl g
-gcdFrom-start g (a ∷ l) =
-    dvd-trans (gcdFrom (gcd g a) l) (gcdFrom-start (gcd g a) l) (gcd-divides-left g a)
+gcds-start : (g : ℕ) (l : List ℕ) → fold gcd g l ∣ g
+unfolding fold
+gcds-start g [] = dvd-refl g
+gcds-start g (a ∷ l) =
+    dvd-trans (fold gcd (gcd g a) l) (gcds-start (gcd g a) l) (gcd-divides-left g a)
 
-gcdFrom-divides : (g : ℕ) (l : List ℕ) → Each (λ a. gcdFrom g l ∣ a) l
-unfolding gcdFrom
-gcdFrom-divides g [] = tt
-gcdFrom-divides g (a ∷ l) = (
-  dvd-trans (gcdFrom (gcd g a) l) (gcdFrom-start (gcd g a) l) (gcd-divides-right g a),
-  gcdFrom-divides (gcd g a) l,
+gcds-divides : (g : ℕ) (l : List ℕ) → Each (λ a. fold gcd g l ∣ a) l
+unfolding fold
+gcds-divides g [] = tt
+gcds-divides g (a ∷ l) = (
+  dvd-trans (fold gcd (gcd g a) l) (gcds-start (gcd g a) l) (gcd-divides-right g a),
+  gcds-divides (gcd g a) l,
 )
 
-gcdFrom-greatest : (g : ℕ) (l : List ℕ) (d : ℕ) → d ∣ g → Each (λ a. d ∣ a) l → d ∣ gcdFrom g l
-unfolding gcdFrom
-gcdFrom-greatest g [] d h hs = h
-gcdFrom-greatest g (a ∷ l) d h (k, hs) = gcdFrom-greatest (gcd g a) l d (gcd-greatest g a d h k) hs
+gcds-greatest : (g : ℕ) (l : List ℕ) (d : ℕ) → d ∣ g → Each (λ a. d ∣ a) l → d ∣ fold gcd g l
+unfolding fold
+gcds-greatest g [] d h hs = h
+gcds-greatest g (a ∷ l) d h (k, hs) = gcds-greatest (gcd g a) l d (gcd-greatest g a d h k) hs
 
 pub gcdOf-is : (l : List ℕ) → IsGcd l (gcdOf l)
-gcdOf-is l = record { divides = gcdFrom-divides 0 l; greatest = λ d h. gcdFrom-greatest 0 l d (dvd-zero d) h }
+gcdOf-is l = record { divides = gcds-divides 0 l; greatest = λ d h. gcds-greatest 0 l d (dvd-zero d) h }
 
-lcmFrom-start : (h : ℕ) (l : List ℕ) → 0 < h → Each (λ a. 0 < a) l → h ∣ lcmFrom h l
-unfolding lcmFrom
-lcmFrom-start h [] p ps = dvd-refl h
-lcmFrom-start h (a ∷ l) p (q, ps) =
+lcms-start : (h : ℕ) (l : List ℕ) → 0 < h → Each (λ a. 0 < a) l → h ∣ fold lcm h l
+unfolding fold
+lcms-start h [] p ps = dvd-refl h
+lcms-start h (a ∷ l) p (q, ps) =
     dvd-trans h (lcm-multiple-left h a p)
-    (lcmFrom-start (lcm h a) l (lcm-positive h a p q) ps)
+    (lcms-start (lcm h a) l (lcm-positive h a p q) ps)
 
-lcmFrom-multiple : (h : ℕ) (l : List ℕ) → 0 < h → Each (λ a. 0 < a) l → Each (λ a. a ∣ lcmFrom h l) l
-unfolding lcmFrom
-lcmFrom-multiple h [] p ps = tt
-lcmFrom-multiple h (a ∷ l) p (q, ps) =
+lcms-multiple : (h : ℕ) (l : List ℕ) → 0 < h → Each (λ a. 0 < a) l → Each (λ a. a ∣ fold lcm h l) l
+unfolding fold
+lcms-multiple h [] p ps = tt
+lcms-multiple h (a ∷ l) p (q, ps) =
     let r : 0 < lcm h a = lcm-positive h a p q in (
-      dvd-trans a (lcm-multiple-right h a p) (lcmFrom-start (lcm h a) l r ps),
-      lcmFrom-multiple (lcm h a) l r ps,
+      dvd-trans a (lcm-multiple-right h a p) (lcms-start (lcm h a) l r ps),
+      lcms-multiple (lcm h a) l r ps,
     )
 
-lcmFrom-least : (h : ℕ) (l : List ℕ) → 0 < h → Each (λ a. 0 < a) l → (m : ℕ) → h ∣ m → Each (λ a. a ∣ m) l → lcmFrom h l ∣ m
-unfolding lcmFrom
-lcmFrom-least h [] p ps m k ks = k
-lcmFrom-least h (a ∷ l) p (q, ps) m k (j, ks) =
-    lcmFrom-least (lcm h a) l (lcm-positive h a p q) ps m (lcm-least h a p m k j) ks
+lcms-least : (h : ℕ) (l : List ℕ) → 0 < h → Each (λ a. 0 < a) l → (m : ℕ) → h ∣ m → Each (λ a. a ∣ m) l → fold lcm h l ∣ m
+unfolding fold
+lcms-least h [] p ps m k ks = k
+lcms-least h (a ∷ l) p (q, ps) m k (j, ks) =
+    lcms-least (lcm h a) l (lcm-positive h a p q) ps m (lcm-least h a p m k j) ks
 
 pub lcmOf-is : (l : List ℕ) → Each (λ a. 0 < a) l → IsLcm l (lcmOf l)
 lcmOf-is l ps =
-    record { multiple = lcmFrom-multiple 1 l (le-refl 1) ps; least = λ m h. lcmFrom-least 1 l (le-refl 1) ps m (one-dvd m) h }
+    record { multiple = lcms-multiple 1 l (le-refl 1) ps; least = λ m h. lcms-least 1 l (le-refl 1) ps m (one-dvd m) h }
 
 -- a least common multiple never falls when numbers are added
-pub lcmFrom-positive : (h : ℕ) (l : List ℕ) → 0 < h → Each (λ a. 0 < a) l → 0 < lcmFrom h l
-unfolding lcmFrom
-lcmFrom-positive h [] p ps = p
-lcmFrom-positive h (a ∷ l) p (q, ps) = lcmFrom-positive (lcm h a) l (lcm-positive h a p q) ps
+pub lcms-positive : (h : ℕ) (l : List ℕ) → 0 < h → Each (λ a. 0 < a) l → 0 < fold lcm h l
+unfolding fold
+lcms-positive h [] p ps = p
+lcms-positive h (a ∷ l) p (q, ps) = lcms-positive (lcm h a) l (lcm-positive h a p q) ps
 
-pub lcmFrom-rises : (h : ℕ) (l : List ℕ) → 0 < h → Each (λ a. 0 < a) l → h ≤ lcmFrom h l
-lcmFrom-rises h l p ps = le-of-dvd (lcmFrom-positive h l p ps) (lcmFrom-start h l p ps)
+pub lcms-rises : (h : ℕ) (l : List ℕ) → 0 < h → Each (λ a. 0 < a) l → h ≤ fold lcm h l
+lcms-rises h l p ps = le-of-dvd (lcms-positive h l p ps) (lcms-start h l p ps)

@@ -1,1 +1,2 @@
 pub mod Divide
+pub mod Each

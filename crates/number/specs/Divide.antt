@@ -16,20 +16,17 @@ gcd a b = euclid (suc b) a b
 unfoldable pub lcm : ℕ → ℕ → ℕ
 lcm a b = a / gcd a b * b
 
--- of a list, taken in from the front; every number divides 0, and 1 divides every number
-unfoldable pub gcdFrom : ℕ → List ℕ → ℕ
-gcdFrom g [] = g
-gcdFrom g (a ∷ l) = gcdFrom (gcd g a) l
+-- a list taken in from the front
+unfoldable pub fold : (ℕ → ℕ → ℕ) → ℕ → List ℕ → ℕ
+fold f x [] = x
+fold f x (a ∷ l) = fold f (f x a) l
 
+-- of a list: every number divides 0, and 1 divides every number
 abbrev pub gcdOf : List ℕ → ℕ
-gcdOf = gcdFrom 0
-
-unfoldable pub lcmFrom : ℕ → List ℕ → ℕ
-lcmFrom h [] = h
-lcmFrom h (a ∷ l) = lcmFrom (lcm h a) l
+gcdOf = fold gcd 0
 
 abbrev pub lcmOf : List ℕ → ℕ
-lcmOf = lcmFrom 1
+lcmOf = fold lcm 1
 
 -- P holds of each number of the list
 abbrev pub Each : (ℕ → Type 0) → List ℕ → Type 0

@@ -1,0 +1,4 @@
+pub mod Decode
+pub mod First
+pub mod Tests
+pub mod Accepted

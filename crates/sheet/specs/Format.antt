@@ -1,0 +1,70 @@
+-- Document 01, "The sheet": what a list of bytes means. All numbers are unsigned, little-endian.
+use Prim.Native.Nat.{ℕ, zero, suc, _+_, _-_, _*_}
+use mathlib.Core.List.{List, [], _∷_}
+use lib.ListN.{length, getD, drop}
+use Rattle.number.specs.Little.{le16, le32}
+use Rattle.model.specs.Machine.{Action, Machine}
+
+-- an action, 8 bytes: source state (1), sink state (1), period (2), execution time (2), relative deadline (2)
+abbrev pub actionAt : List ℕ → ℕ → Action
+actionAt b at =
+    record {
+      source = getD b at 0;
+      sink = getD b (at + 1) 0;
+      period = le16 b (at + 2);
+      time = le16 b (at + 4);
+      deadline = le16 b (at + 6);
+    }
+
+-- a machine entry, 8 bytes: states (1), initial state (1), actions (1), a zero byte (1), offset of its first action (4)
+pub record Entry : Type 0 where
+  pub states : ℕ
+  pub initial : ℕ
+  pub actions : ℕ
+  pub zeroByte : ℕ
+  pub offset : ℕ
+
+abbrev pub entryAt : List ℕ → ℕ → Entry
+entryAt b at =
+    record {
+      states = getD b at 0;
+      initial = getD b (at + 1) 0;
+      actions = getD b (at + 2) 0;
+      zeroByte = getD b (at + 3) 0;
+      offset = le32 b (at + 4);
+    }
+
+-- the trailer, the last 12 bytes: offset of the first machine entry (4), number of machines (4), the four bytes 53 46 53 31
+abbrev pub trailerOffset : List ℕ → ℕ
+trailerOffset b = le32 b (length b - 12)
+
+abbrev pub machineCount : List ℕ → ℕ
+machineCount b = le32 b (length b - 8)
+
+abbrev pub lastFour : List ℕ → List ℕ
+lastFour b = drop (length b - 4) b
+
+abbrev pub mark : List ℕ
+mark = 0x53 ∷ 0x46 ∷ 0x53 ∷ 0x31 ∷ []
+
+-- the entry of machine k
+abbrev pub entry : List ℕ → ℕ → Entry
+entry b k = entryAt b (trailerOffset b + 8 * k)
+
+-- the n actions that stand one after another from `at` on
+unfoldable pub actionsAt : List ℕ → ℕ → ℕ → List Action
+actionsAt b at zero = []
+actionsAt b at (suc n) = actionAt b at ∷ actionsAt b (at + 8) n
+
+-- the machine that an entry describes
+abbrev pub described : List ℕ → Entry → Machine
+described b e = record { states = e .states; initial = e .initial; actions = actionsAt b (e .offset) (e .actions) }
+
+-- the n machines from machine k on
+unfoldable pub machinesFrom : List ℕ → ℕ → ℕ → List Machine
+machinesFrom b k zero = []
+machinesFrom b k (suc n) = described b (entry b k) ∷ machinesFrom b (suc k) n
+
+-- the machines of a sheet
+unfoldable pub decode : List ℕ → List Machine
+decode b = machinesFrom b 0 (machineCount b)

@@ -1,0 +1,5 @@
+pub mod Format
+pub mod Reply
+pub mod Rules
+pub mod Check
+pub mod Inside
