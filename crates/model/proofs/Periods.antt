@@ -43,6 +43,10 @@ module _ {f : ℕ → ℕ → ℕ} {m : Machine} where
       let all : length (periods m) ≤ j = omega (arith, periods-count m) in
       ap (fold f x) (sym (drop-of-length-le (periods m) all)) ∙ h .left
 
+pub divisor-begin : (m : Machine) → Taking gcd m 0 0 (divisor m)
+unfolding divisor
+divisor-begin m = record { left = refl }
+
 -- a least common multiple never falls: what is above a limit on the way is above it at the end
 pub taking-rises : {m : Machine} {x j v : ℕ} → Taking lcm m x j v → 0 < x → Each (λ p. 0 < p) (periods m) → x ≤ v
 taking-rises {m} {x} {j} h p each =

@@ -21,6 +21,9 @@ each-from : (P : ℕ → Type 0) (l : List Action) (d : Action) → ((k : ℕ) �
 each-from P [] d h = tt
 each-from P (a ∷ l) d h = (h 0 (omega arith), each-from P l d (λ k b. h (suc k) (omega arith)))
 
+pub periods-each : (P : ℕ → Type 0) (m : Machine) → ((k : ℕ) → k < count m → P (actionOf m k .period)) → Each P (periods m)
+periods-each P m h = each-from P (m .actions) _ h
+
 -- of all periods in the sheet, and of those of machine i
 all-at : (P : ℕ → Type 0) (ms : List Machine) → Each P (allPeriods ms) → (i : ℕ) → i < length ms → Each P (periods (machineOf ms i))
 unfolding allPeriods
@@ -40,7 +43,7 @@ divisor-divides m k l = each-at (λ a. gcdOf (periods m) ∣ a) (m .actions) _ (
 
 pub periods-positive : (ms : List Machine) → ((i k : ℕ) → i < length ms → k < count (machineOf ms i) → 0 < actionOf (machineOf ms i) k .period)
     → Each (λ a. 0 < a) (allPeriods ms)
-periods-positive ms h = all-from (λ a. 0 < a) ms (λ i l. each-from (λ a. 0 < a) (machineOf ms i .actions) _ (λ k b. h i k l b))
+periods-positive ms h = all-from (λ a. 0 < a) ms (λ i l. periods-each (λ a. 0 < a) (machineOf ms i) (λ k b. h i k l b))
 
 module _ (ms : List Machine) (sizes : Sizes ms) where
   positive : Each (λ a. 0 < a) (allPeriods ms)

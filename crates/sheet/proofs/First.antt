@@ -8,7 +8,8 @@ use mathlib.Core.Logic.{⊎-elim}
 use native.Mathlib.Omega.{arith}
 use native.Mathlib.Numerals.{add-one}
 use native.Mathlib.Nat.{not-suc-le-zero, le-of-suc-le-suc, eq-or-lt-of-le, le-antisymm}
-use borrow.Author.Tests.{not-true, not-false}
+use lib.Dec.{eqb}
+use borrow.Author.Tests.{not-true, not-false, eq-eqb, ne-eqb}
 use Rattle.sheet.specs.Reply.{Reply}
 use Rattle.sheet.specs.Rules.{unless, _orElse_, firstOf}
 
@@ -22,6 +23,19 @@ kept-here t {test} r e n = ap (λ x. unless x r) (sym e ∙ not-false t n)
 pub unless-none : (test : Bool) (r : Reply) → unless test r ≡ none → test ≡ true
 unless-none true r e = refl
 unless-none false r e = absurd (Option·none-ne-some r (sym e))
+
+-- the same of a test that two numbers are equal
+pub equal-broken : (x y : ℕ) (r : Reply) → (x ≡ y → ⊥) → unless (eqb x y) r ≡ some r
+equal-broken x y r n = ap (λ t. unless t r) (ne-eqb x y n)
+
+pub equal-kept : (x y : ℕ) (r : Reply) → x ≡ y → unless (eqb x y) r ≡ none
+equal-kept x y r e = ap (λ t. unless t r) (eq-eqb x y e)
+
+pub orElse-found : {a : Option Reply} (b : Option Reply) {r : Reply} → a ≡ some r → a orElse b ≡ some r
+orElse-found b e = ap (λ x. x orElse b) e
+
+pub orElse-clear : {a : Option Reply} (b : Option Reply) → a ≡ none → a orElse b ≡ b
+orElse-clear b e = ap (λ x. x orElse b) e
 
 pub orElse-none : (a b : Option Reply) → a orElse b ≡ none → (a ≡ none) × (b ≡ none)
 orElse-none none b e = (refl, e)

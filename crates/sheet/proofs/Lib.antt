@@ -1,4 +1,6 @@
 pub mod Decode
 pub mod First
 pub mod Tests
+pub mod Walk
 pub mod Accepted
+pub mod Answer

@@ -12,12 +12,19 @@ use Rattle.sheet.specs.declared.Rule.{Rule}
 use Rattle.sheet.specs.declared.Rule.the-variants.{Kept, Broken}
 use Rattle.sheet.specs.Format.{entry, trailerOffset, machineCount, decode}
 use Rattle.sheet.specs.Reply.{Reply, refused}
-use Rattle.sheet.specs.Rules.{between, actionsBefore}
+use Rattle.sheet.specs.Rules.{between, actionsBefore, _orElse_, rule1, rule2, rule3, rule4, rule5, rule6, rule7, rule8}
 
 -- what a rule's function answers, as its definition has it
 abbrev pub found : Rule → Option Reply
 found Kept = none
 found (Broken r) = some (refused r)
+
+-- the refusal under rules 1 to 4, and under rules 1 to 8, if there is one
+abbrev pub trailerRules : List ℕ → Option Reply
+trailerRules b = rule1 b orElse rule2 b orElse rule3 b orElse rule4 b
+
+unfoldable pub firstRules : List ℕ → Option Reply
+firstRules b = trailerRules b orElse rule5 b orElse rule6 b orElse rule7 b orElse rule8 b
 
 -- a sheet that rules 1 to 4 let through
 pub record Laid (b : List ℕ) : Type 0 where

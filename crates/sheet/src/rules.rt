@@ -4,15 +4,15 @@ ghost use mathlib.Core.Path.{_≡_};
 ghost use mathlib.Core.Option.{some};
 ghost use Prim.Native.Nat.{_+_, _≤_, _<_};
 ghost use lib.ListN.{length};
-ghost use Rattle.number.specs.Divide.{lcmFrom};
+ghost use Rattle.number.specs.Divide.{fold, lcm};
 ghost use Rattle.model.specs.Machine.{machineOf, periods, divisor, hyperperiod};
 ghost use Rattle.model.specs.Sizes.{Between};
 ghost use Rattle.sheet.specs.Format.{actionAt, entry, machineCount, lastFour, mark, decode};
 ghost use Rattle.sheet.specs.Reply.{refusal};
-ghost use Rattle.sheet.specs.Rules.{_orElse_, same, trailerInRange, entryInRange, machineRefusal, actionsRefusal};
-ghost use Rattle.sheet.specs.Rules.{rule1, rule2, rule3, rule4, rule5, rule6};
+ghost use Rattle.sheet.specs.Rules.{same, trailerInRange, entryInRange, machineRefusal, actionsRefusal};
+ghost use Rattle.sheet.specs.Rules.{rule5, rule6};
 ghost use Rattle.sheet.specs.Rules.{between as Rules·between};
-ghost use Rattle.sheet.specs.Inside.{found, Laid, Entered, Filled, Ranged, keeps, keepsIn, Limited};
+ghost use Rattle.sheet.specs.Inside.{found, trailerRules, Laid, Entered, Filled, Ranged, keeps, keepsIn, Limited};
 use crate::Refusal;
 use crate::Rule;
 use crate::read;
@@ -56,7 +56,7 @@ fn trailer_in_range(sheet: &[u8]) -> bool
 
 // Rules 1 to 4: the length, the last four bytes, the machine count and the trailer's offset.
 pub(crate) fn trailer_rules(sheet: &[u8]) -> Rule
-    ensures { λ r. ⌜ found r ≡ rule1 (now (sheet .entry)) orElse rule2 (now (sheet .entry)) orElse rule3 (now (sheet .entry)) orElse rule4 (now (sheet .entry)) ⌝ }
+    ensures { λ r. ⌜ found r ≡ trailerRules (now (sheet .entry)) ⌝ }
 {
     if !between(28, 2124, sheet.len()) {
         return broken(1, 0, 0);
@@ -193,7 +193,7 @@ pub(crate) fn action_rule(sheet: &[u8], rule: u32) -> Rule
 // The least common multiple of h and a machine's periods, or some number above 1,024 if it is above.
 fn multiple_of(sheet: &[u8], machine: usize, h: u32) -> u32
     requires { ⌜ Ranged (now sheet) × (machine < machineCount (now sheet)) × Between 1 1024 h ⌝ }
-    ensures { λ r. ⌜ Limited (lcmFrom h (periods (machineOf (decode (now (sheet .entry))) machine))) r ⌝ }
+    ensures { λ r. ⌜ Limited (fold lcm h (periods (machineOf (decode (now (sheet .entry))) machine))) r ⌝ }
 {
     let actions = read::action_count(sheet, machine);
     let first = read::first_action(sheet, machine);

@@ -1,62 +1,50 @@
+use Rattle.sheet.specs.Format.{actionAt}
+use Rattle.sheet.proofs.Tests.{seven-test, eight-test}
 use borrow.Author.Needs.{needs}
 use Rattle.sheet.proofs.rules.action_keeps.Statement.{statement}
 use Rattle.sheet.proofs.rules.action_keeps.Tie as tie
-use Rattle.sheet.proofs.rules.action_keeps.Reads as reads
-use Rattle.sheet.proofs.rules.action_keeps.Lts as lts
-use Rattle.sheet.proofs.read.deadline.Reads as deadline-reads
-use Rattle.sheet.proofs.read.period.Reads as period-reads
-use Rattle.sheet.proofs.read.sink.Reads as sink-reads
-use Rattle.sheet.proofs.read.source.Reads as source-reads
-use Rattle.sheet.proofs.read.time.Reads as time-reads
-use Rattle.sheet.proofs.rules.between.Reads as between-reads
 
--- src/rules.rt:131:17
 source-requires : tie.Need-source-requires
 source-requires c κs = search needs
 
--- src/rules.rt:132:16
 sink-requires : tie.Need-sink-requires
 sink-requires c κs = search needs
 
--- src/rules.rt:133:32
 period-requires : tie.Need-period-requires
 period-requires c κs = search needs
 
--- src/rules.rt:133:32
 cast-between : tie.Need-cast-between
 cast-between c = search needs
 
--- src/rules.rt:133:15
 between-requires : tie.Need-between-requires
 between-requires c κs = search needs
 
--- src/rules.rt:134:32
 time-requires : tie.Need-time-requires
 time-requires c κs = search needs
 
--- src/rules.rt:134:32
 cast-between-2 : tie.Need-cast-between-2
 cast-between-2 c = search needs
 
--- src/rules.rt:134:15
 between-requires-2 : tie.Need-between-requires-2
 between-requires-2 c κs = search needs
 
--- src/rules.rt:135:21
 deadline-requires : tie.Need-deadline-requires
 deadline-requires c κs = search needs
 
--- src/rules.rt:131:9
 returns : tie.Need-returns
-returns c = ?
+returns c =
+    let read = c .before .before .before .before in
+    seven-test _ _ _ _ _ _ _ _ _ _ _ (read .before .before .before .if1 .taken) (read .before .before .source .ensures) (read .before .sink .ensures)
+    (read .period .ensures) (c .before .before .before .between .ensures) (c .before .before .time .ensures) (c .before .between2 .ensures)
+    (c .deadline .ensures)
 
--- src/rules.rt:137:5
 deadline-requires-2 : tie.Need-deadline-requires-2
 deadline-requires-2 c κs = search needs
 
--- src/rules.rt:126:1
 returns-2 : tie.Need-returns-2
-returns-2 c = ?
+returns-2 c =
+    let start = c .before .before .before .args in
+    eight-test _ (start .states) _ (actionAt (start .sheet .now) (start .at)) _ (c .before .if1 .left) (c .deadline2 .ensures)
 
 pub action-keeps-spec : {M : Type 1} → statement M
 action-keeps-spec =

@@ -1,54 +1,57 @@
+use Rattle.sheet.proofs.First.{Clear, clear-begin, clear-found, clear-more, clear-end}
+use Rattle.sheet.specs.Inside.{found, keepsIn}
+use Rattle.sheet.specs.Rules.{machineRefusal}
+use borrow.Author.Needs.{needs}
+use native.Mathlib.Omega.{arith}
+use mathlib.Core.Path.{_≡_, sym, _∙_, ap}
+use Prim.Native.Nat.{_≤_, _<_, _-_}
 use Rattle.sheet.proofs.rules.action_rule.Statement.{statement}
 use Rattle.sheet.proofs.rules.action_rule.Tie as tie
-use Rattle.sheet.proofs.rules.action_rule.Reads as reads
-use Rattle.sheet.proofs.rules.action_rule.Lts as lts
-use Rattle.sheet.proofs.read.machine_count.Reads as machine-count-reads
-use Rattle.sheet.proofs.rules.machine_rule.Reads as machine-rule-reads
 
 abbrev Inv-loop : tie.InvT-loop
-Inv-loop sheet rule machines k₀ k = ?
+Inv-loop sheet rule machines k₀ k = (k ≤ machines) × Clear (machineRefusal (keepsIn rule) rule sheet) k
 
 abbrev μ-loop : tie.MeasureT-loop
-μ-loop sheet rule machines k₀ k = ?
+μ-loop sheet rule machines k₀ k = machines - k
 
--- src/rules.rt:181:9
 machine-count-requires : tie.Need-machine-count-requires Inv-loop μ-loop
-machine-count-requires c κs = ?
+machine-count-requires c κs = omega arith
 
--- src/rules.rt:183:5
 loop-holds : tie.Need-loop-holds Inv-loop μ-loop
-loop-holds c = ?
+loop-holds c = (omega arith, clear-begin)
 
--- src/rules.rt:184:13
 machine-rule-requires : tie.Need-machine-rule-requires Inv-loop μ-loop
-machine-rule-requires c κs = ?
+machine-rule-requires c κs = (c .before .before .before .before .pre, omega (arith, c .before .before .machine-count .ensures .0))
 
--- src/rules.rt:186:13
 enum-told : tie.Need-enum-told Inv-loop μ-loop
-enum-told c = ?
+enum-told c = search needs
 
--- src/rules.rt:186:13
 returns : tie.Need-returns Inv-loop μ-loop
-returns c = ?
+returns c =
+    let turn = c .before .before .before in
+    let broken = ap found (c .enum-told .given .1) in
+    broken ∙ sym (clear-found _ (turn .before .loop .inv .1) (omega (arith, turn .before .before .machine-count .ensures .0)) (sym (c .before .before .machine-rule .ensures) ∙ broken))
 
 enum-told-2 : tie.Need-enum-told-2 Inv-loop μ-loop
-enum-told-2 c = ?
+enum-told-2 c = search needs
 
--- src/rules.rt:188:9
 add-k : tie.Need-add-k Inv-loop μ-loop
-add-k c = ?
+add-k c = omega arith
 
--- src/rules.rt:183:5
 loop-less : tie.Need-loop-less Inv-loop μ-loop
-loop-less c = ?
+loop-less c = omega arith
 
--- src/rules.rt:183:5
 loop-again : tie.Need-loop-again Inv-loop μ-loop
-loop-again c = ?
+loop-again c =
+    let turn = c .before .before .before in (
+      omega arith,
+      clear-more (turn .before .loop .inv .1) (sym (c .before .before .machine-rule .ensures) ∙ ap found (c .enum-told2 .given .1)),
+    )
 
--- src/rules.rt:177:1
 returns-2 : tie.Need-returns-2 Inv-loop μ-loop
-returns-2 c = ?
+returns-2 c =
+    let counted = c .before .before .machine-count .ensures .0 in
+    sym (clear-end _ (c .before .loop .inv .1) (omega (arith, counted)) (omega (arith, counted)))
 
 pub action-rule-spec : {M : Type 1} → statement M
 action-rule-spec =

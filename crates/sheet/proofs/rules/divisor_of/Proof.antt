@@ -1,61 +1,67 @@
+use Rattle.sheet.proofs.Walk.{action-inside, period-read}
+use Rattle.sheet.specs.Format.{decode}
+use Rattle.model.proofs.Periods.{Taking, divisor-begin, taking-more, taking-end}
+use Rattle.model.specs.Machine.{machineOf, divisor}
+use Rattle.number.specs.Divide.{gcd}
+use native.Mathlib.Omega.{arith}
+use mathlib.Core.Path.{_≡_, sym, _∙_, ap}
+use Prim.Native.Nat.{_+_, _*_, _≤_, _-_}
+use lib.ListN.{length}
 use Rattle.sheet.proofs.rules.divisor_of.Statement.{statement}
 use Rattle.sheet.proofs.rules.divisor_of.Tie as tie
-use Rattle.sheet.proofs.rules.divisor_of.Reads as reads
-use Rattle.sheet.proofs.rules.divisor_of.Lts as lts
-use Rattle.number.proofs.gcd_of.Reads as gcd-of-reads
-use Rattle.sheet.proofs.read.action_count.Reads as action-count-reads
-use Rattle.sheet.proofs.read.first_action.Reads as first-action-reads
-use Rattle.sheet.proofs.read.period.Reads as period-reads
 
 abbrev Inv-loop : tie.InvT-loop
-Inv-loop sheet machine actions first divisor₀ j₀ divisor j = ?
+Inv-loop sheet machine actions first d₀ j₀ d j = (j ≤ actions) × Taking gcd (machineOf (decode sheet) machine) d j (divisor (machineOf (decode sheet) machine))
 
 abbrev μ-loop : tie.MeasureT-loop
-μ-loop sheet machine actions first divisor₀ j₀ divisor j = ?
+μ-loop sheet machine actions first divisor₀ j₀ divisor j = actions - j
 
--- src/rules.rt:145:9
+-- the action that a turn reads stands inside the sheet
+inside : (c : tie.In-loop Inv-loop μ-loop) → c .before .before .first-action .result + 8 * c .before .loop .j + 8 ≤ length (c .before .before .before .before .before .args .sheet .now)
+inside c =
+    let start = c .before .before .before .before .before in
+    action-inside (start .pre .0) (start .pre .1) (c .before .before .before .action-count .ensures)
+    (c .before .before .first-action .ensures) (c .loop-test .taken)
+
 action-count-requires : tie.Need-action-count-requires Inv-loop μ-loop
-action-count-requires c κs = ?
+action-count-requires c κs = (c .before .pre .0 .entered .laid, c .before .pre .1)
 
--- src/rules.rt:146:9
 first-action-requires : tie.Need-first-action-requires Inv-loop μ-loop
-first-action-requires c κs = ?
+first-action-requires c κs = (c .before .before .pre .0 .entered .laid, c .before .before .pre .1)
 
--- src/rules.rt:149:5
 loop-holds : tie.Need-loop-holds Inv-loop μ-loop
-loop-holds c = ?
+loop-holds c = (omega arith, divisor-begin _)
 
--- src/rules.rt:150:72
 mul-period : tie.Need-mul-period Inv-loop μ-loop
-mul-period c = ?
+mul-period c = omega (arith, inside c)
 
--- src/rules.rt:150:64
 add-period : tie.Need-add-period Inv-loop μ-loop
-add-period c = ?
+add-period c = omega (arith, inside c)
 
--- src/rules.rt:150:44
 period-requires : tie.Need-period-requires Inv-loop μ-loop
-period-requires c κs = ?
+period-requires c κs = inside c
 
--- src/rules.rt:150:13
 gcd-of-requires : tie.Need-gcd-of-requires Inv-loop μ-loop
-gcd-of-requires c κs = ?
+gcd-of-requires c κs = tt
 
--- src/rules.rt:152:9
 add-j : tie.Need-add-j Inv-loop μ-loop
-add-j c = ?
+add-j c = omega arith
 
--- src/rules.rt:149:5
 loop-less : tie.Need-loop-less Inv-loop μ-loop
-loop-less c = ?
+loop-less c = omega arith
 
--- src/rules.rt:149:5
 loop-again : tie.Need-loop-again Inv-loop μ-loop
-loop-again c = ?
+loop-again c =
+    let turn = c .before .before in
+    let start = turn .before .before .before .before .before in (
+      omega arith,
+      taking-more _ (turn .before .loop .inv .1) (omega (arith, turn .before .before .before .action-count .ensures))
+          (c .gcd-of .ensures ∙ ap (gcd (turn .before .loop .divisor)) (c .before .period .ensures ∙
+          period-read (start .pre .0) (start .pre .1) (turn .before .before .before .action-count .ensures) (turn .before .before .first-action .ensures) (turn .loop-test .taken))),
+    )
 
--- src/rules.rt:141:1
 returns : tie.Need-returns Inv-loop μ-loop
-returns c = ?
+returns c = taking-end (c .before .loop .inv .1) (omega (arith, c .before .before .before .action-count .ensures))
 
 pub divisor-of-spec : {M : Type 1} → statement M
 divisor-of-spec =

@@ -1,47 +1,70 @@
+use Rattle.sheet.proofs.Walk.{machine-positive, all-positive}
+use Rattle.sheet.proofs.Decode.{decode-count}
+use Rattle.sheet.specs.Format.{machineCount, decode}
+use Rattle.model.proofs.Periods.{Gathering, gathering-begin, gathering-more, gathering-end, gathering-rises}
+use Rattle.model.specs.Sizes.{Between}
+use Rattle.model.specs.Machine.{machineOf, periods, hyperperiod}
+use Rattle.number.proofs.Divide.{lcms-positive}
+use Rattle.number.specs.Divide.{fold, lcm}
+use native.Mathlib.Omega.{arith}
+use lib.ListN.{length}
+use mathlib.Core.Path.{_≡_, refl}
+use Prim.Native.Nat.{_≤_, _<_, _-_}
 use Rattle.sheet.proofs.rules.hyperperiod_of.Statement.{statement}
 use Rattle.sheet.proofs.rules.hyperperiod_of.Tie as tie
-use Rattle.sheet.proofs.rules.hyperperiod_of.Reads as reads
-use Rattle.sheet.proofs.rules.hyperperiod_of.Lts as lts
-use Rattle.sheet.proofs.read.machine_count.Reads as machine-count-reads
-use Rattle.sheet.proofs.rules.multiple_of.Reads as multiple-of-reads
 
 abbrev Inv-loop : tie.InvT-loop
-Inv-loop sheet machines h₀ k₀ h k = ?
+Inv-loop sheet machines h₀ k₀ h k = (k ≤ machines) × Between 1 1024 h × Gathering (decode sheet) h k (hyperperiod (decode sheet))
 
 abbrev μ-loop : tie.MeasureT-loop
-μ-loop sheet machines h₀ k₀ h k = ?
+μ-loop sheet machines h₀ k₀ h k = machines - k
 
--- src/rules.rt:218:9
+-- a turn's machine is one of the sheet's
+known : (c : tie.In-loop Inv-loop μ-loop) → c .before .loop .k < machineCount (c .before .before .before .before .args .sheet .now)
+known c = omega (arith, c .before .before .machine-count .ensures .0)
+
+here : (c : tie.In-loop Inv-loop μ-loop) → c .before .loop .k < length (decode (c .before .before .before .before .args .sheet .now))
+here c = omega (arith, known c, decode-count (c .before .before .before .before .args .sheet .now))
+
+-- the least common multiple with its periods
+positive : (c : tie.In-loop Inv-loop μ-loop)
+    → 0 < fold lcm (c .before .loop .h) (periods (machineOf (decode (c .before .before .before .before .args .sheet .now)) (c .before .loop .k)))
+positive c = lcms-positive _ _ (c .before .loop .inv .1 .0) (machine-positive _ (c .before .before .before .before .pre) (known c))
+
 machine-count-requires : tie.Need-machine-count-requires Inv-loop μ-loop
-machine-count-requires c κs = ?
+machine-count-requires c κs = omega arith
 
--- src/rules.rt:221:5
 loop-holds : tie.Need-loop-holds Inv-loop μ-loop
-loop-holds c = ?
+loop-holds c = (omega arith, omega arith, gathering-begin)
 
--- src/rules.rt:222:13
 multiple-of-requires : tie.Need-multiple-of-requires Inv-loop μ-loop
-multiple-of-requires c κs = ?
+multiple-of-requires c κs = (c .before .before .before .before .pre, known c, c .before .loop .inv .1)
 
--- src/rules.rt:224:13
 returns : tie.Need-returns Inv-loop μ-loop
-returns c = ?
+returns c =
+    let turn = c .before .before in
+    let sheet = turn .before .before .before .before in
+    let more = gathering-more _ (turn .before .loop .inv .2) (here turn) refl in
+    let rises = gathering-rises more (positive turn) (all-positive (sheet .pre)) in
+    record { exact = λ l. absurd (omega arith); above = λ l. omega (arith, c .before .multiple-of .ensures .above l) }
 
--- src/rules.rt:227:9
 add-k : tie.Need-add-k Inv-loop μ-loop
-add-k c = ?
+add-k c = omega arith
 
--- src/rules.rt:221:5
 loop-less : tie.Need-loop-less Inv-loop μ-loop
-loop-less c = ?
+loop-less c = omega arith
 
--- src/rules.rt:221:5
 loop-again : tie.Need-loop-again Inv-loop μ-loop
-loop-again c = ?
+loop-again c =
+    let turn = c .before .before in
+    let same = c .before .multiple-of .ensures .exact (c .if1 .left) in
+    (omega arith, (omega (arith, positive turn), omega arith), gathering-more _ (turn .before .loop .inv .2) (here turn) same)
 
--- src/rules.rt:214:1
 returns-2 : tie.Need-returns-2 Inv-loop μ-loop
-returns-2 c = ?
+returns-2 c =
+    let sheet = c .before .before .before .before in
+    let same = gathering-end (c .before .loop .inv .2) (omega (arith, decode-count (sheet .args .sheet .now), c .before .before .machine-count .ensures .0)) in
+    record { exact = λ l. same; above = λ l. absurd (omega arith) }
 
 pub hyperperiod-of-spec : {M : Type 1} → statement M
 hyperperiod-of-spec =

@@ -1,78 +1,105 @@
+use Rattle.sheet.proofs.Tests.{begin-next, end-broken, end-kept}
+use Rattle.sheet.proofs.First.{equal-broken, equal-kept, orElse-found, orElse-clear, Clear, clear-begin, clear-found, clear-more, clear-end}
+use Rattle.sheet.specs.Rules.{actionsBefore, offsetRefusal, firstOf}
+use Rattle.sheet.specs.Format.{machineCount}
+use mathlib.Core.Option.{none}
+use native.Mathlib.Omega.{arith}
+use mathlib.Core.Path.{_≡_, refl, sym, _∙_, ap}
+use Prim.Native.Nat.{ℕ, _*_, _≤_, _-_}
 use Rattle.sheet.proofs.rules.offset_rule.Statement.{statement}
 use Rattle.sheet.proofs.rules.offset_rule.Tie as tie
-use Rattle.sheet.proofs.rules.offset_rule.Reads as reads
-use Rattle.sheet.proofs.rules.offset_rule.Lts as lts
-use Rattle.sheet.proofs.read.action_count.Reads as action-count-reads
-use Rattle.sheet.proofs.read.first_action.Reads as first-action-reads
-use Rattle.sheet.proofs.read.machine_count.Reads as machine-count-reads
-use Rattle.sheet.proofs.read.trailer_offset.Reads as trailer-offset-reads
-use Rattle.sheet.proofs.rules.broken.Reads as broken-reads
 
 abbrev Inv-loop : tie.InvT-loop
-Inv-loop sheet machines begin₀ k₀ begin k = ?
+Inv-loop sheet machines begin₀ k₀ begin k = (k ≤ machines) × (begin ≤ 256 * k) × (begin ≡ 8 * actionsBefore sheet k) × Clear (offsetRefusal sheet) k
 
 abbrev μ-loop : tie.MeasureT-loop
-μ-loop sheet machines begin₀ k₀ begin k = ?
+μ-loop sheet machines begin₀ k₀ begin k = machines - k
 
--- src/rules.rt:109:9
+-- a machine has at most 32 actions
+few : (c : tie.After-action-count Inv-loop μ-loop) → c .action-count .result ≤ 32
+few c =
+    let turn = c .before .before .before in
+    omega (
+      arith,
+      c .action-count .ensures,
+      turn .before .before .before .before .pre .actions (turn .before .loop .k)
+          (omega (arith, turn .before .before .machine-count .ensures .0)) .1,
+    )
+
+-- after the loop
+last : (c : tie.After-loop Inv-loop μ-loop) → c .before .loop .k ≡ c .before .before .machine-count .result
+last c = omega arith
+
+none-before : (c : tie.After-loop Inv-loop μ-loop)
+    → firstOf (machineCount (c .before .before .before .before .args .sheet .now)) (offsetRefusal (c .before .before .before .before .args .sheet .now)) ≡ none
+none-before c =
+    let counted = c .before .before .machine-count .ensures .0 in
+    clear-end _ (c .before .loop .inv .3) (omega (arith, counted)) (omega (arith, counted))
+
 machine-count-requires : tie.Need-machine-count-requires Inv-loop μ-loop
-machine-count-requires c κs = ?
+machine-count-requires c κs = omega arith
 
--- src/rules.rt:112:5
 loop-holds : tie.Need-loop-holds Inv-loop μ-loop
-loop-holds c = ?
+unfolding actionsBefore
+loop-holds c = (omega arith, omega arith, omega arith, clear-begin)
 
--- src/rules.rt:113:12
 first-action-requires : tie.Need-first-action-requires Inv-loop μ-loop
-first-action-requires c κs = ?
+first-action-requires c κs = (c .before .before .before .before .pre .laid, omega (arith, c .before .before .machine-count .ensures .0))
 
--- src/rules.rt:114:13
 broken-requires : tie.Need-broken-requires Inv-loop μ-loop
-broken-requires c κs = ?
+broken-requires c κs = omega (arith, c .before .before .before .before .machine-count .ensures .0)
 
--- src/rules.rt:114:13
 returns : tie.Need-returns Inv-loop μ-loop
-returns c = ?
+returns c =
+    let turn = c .before .before .before in
+    c .broken .ensures
+    ∙ sym (orElse-found _ (clear-found _ (turn .before .loop .inv .3) (omega (arith, turn .before .before .machine-count .ensures .0))
+    (equal-broken _ _ _ (λ e. c .before .if1 .taken (c .before .before .first-action .ensures ∙ e ∙ sym (turn .before .loop .inv .2))))))
 
--- src/rules.rt:116:22
 action-count-requires : tie.Need-action-count-requires Inv-loop μ-loop
-action-count-requires c κs = ?
+action-count-requires c κs = (c .before .before .before .before .before .before .pre .laid, omega (arith, c .before .before .before .before .machine-count .ensures .0))
 
--- src/rules.rt:116:18
 mul-begin : tie.Need-mul-begin Inv-loop μ-loop
-mul-begin c = ?
+mul-begin c = omega (arith, few c)
 
--- src/rules.rt:116:9
 add-begin : tie.Need-add-begin Inv-loop μ-loop
-add-begin c = ?
+add-begin c = omega (arith, few c)
 
--- src/rules.rt:117:9
 add-k : tie.Need-add-k Inv-loop μ-loop
-add-k c = ?
+add-k c = omega arith
 
--- src/rules.rt:112:5
 loop-less : tie.Need-loop-less Inv-loop μ-loop
-loop-less c = ?
+loop-less c = omega arith
 
--- src/rules.rt:112:5
 loop-again : tie.Need-loop-again Inv-loop μ-loop
-loop-again c = ?
+loop-again c =
+    let turn = c .before .before .before in (
+      omega arith,
+      omega (arith, few c),
+      begin-next _ _ (omega (arith, turn .before .before .machine-count .ensures .0)) _ _ (turn .before .loop .inv .2) (c .action-count .ensures),
+      clear-more (turn .before .loop .inv .3) (equal-kept _ _ _ (sym (c .before .before .first-action .ensures) ∙ c .before .if1 .left ∙ turn .before .loop .inv .2)),
+    )
 
--- src/rules.rt:119:17
 trailer-offset-requires : tie.Need-trailer-offset-requires Inv-loop μ-loop
-trailer-offset-requires c κs = ?
+trailer-offset-requires c κs = omega arith
 
--- src/rules.rt:120:9
 broken-requires-2 : tie.Need-broken-requires-2 Inv-loop μ-loop
-broken-requires-2 c κs = ?
+broken-requires-2 c κs = omega (arith, c .before .before .before .before .machine-count .ensures .0)
 
--- src/rules.rt:120:9
 returns-2 : tie.Need-returns-2 Inv-loop μ-loop
-returns-2 c = ?
+returns-2 c =
+    let done = c .before .before .before in
+    c .broken2 .ensures
+    ∙ sym (orElse-clear _ (none-before done)
+    ∙ end-broken _ (done .before .before .machine-count .ensures .0) (last done) (done .before .loop .inv .2)
+    (c .before .before .trailer-offset .ensures .0) (c .before .if2 .taken))
 
--- src/rules.rt:105:1
 returns-3 : tie.Need-returns-3 Inv-loop μ-loop
-returns-3 c = ?
+returns-3 c =
+    let done = c .before .before in
+    sym (orElse-clear _ (none-before done)
+    ∙ end-kept _ (done .before .before .machine-count .ensures .0) (last done) (done .before .loop .inv .2)
+    (c .before .trailer-offset .ensures .0) (c .if2 .left))
 
 pub offset-rule-spec : {M : Type 1} → statement M
 offset-rule-spec =

@@ -1,0 +1,107 @@
+-- The reply of `check`: what it is where the rules are kept or broken, what acceptance gives, and that no second result satisfies the contract.
+-- Assumes nothing.
+use Prim.Native.Nat.{ℕ, _≤_, _<_}
+use mathlib.Core.Path.{_≡_, refl, sym, _∙_, ap}
+use mathlib.Core.List.{List, [], _∷_}
+use mathlib.Core.Option.{Option, none, some}
+use native.Mathlib.Omega.{arith}
+use borrow.Author.Tests.{le-leb, lt-leb}
+use Rattle.model.specs.Machine.{hyperperiod}
+use Rattle.sheet.specs.declared.Checked.{Checked}
+use Rattle.sheet.specs.declared.Checked.the-variants.{Accepted, Refused}
+use Rattle.sheet.specs.declared.Refusal.{Refusal}
+use Rattle.sheet.specs.Format.{machineCount, decode}
+use Rattle.sheet.specs.Reply.{Reply, answer, refusal, paper}
+use Rattle.sheet.specs.Rules.{unless, _orElse_, rule1, rule2, rule3, rule4, rule5, rule6, rule7, rule8, rule9}
+use Rattle.sheet.specs.Check.{refusalOf, _otherwise_, checkReply}
+use Rattle.sheet.specs.Inside.{trailerRules, firstRules, Laid, Entered, Filled, Ranged}
+use Rattle.sheet.specs.Inside.{Accepted as IsAccepted}
+use Rattle.sheet.proofs.First.{orElse-assoc, orElse-none, orElse-found, orElse-clear}
+use Rattle.sheet.proofs.Accepted.{laid, entered, filled, ranged, accepted}
+
+module _ (b : List ℕ) where
+  pub trailer-laid : trailerRules b ≡ none → Laid b
+  trailer-laid e =
+      let (one, rest) = orElse-none (rule1 b) _ e in
+      let (two, more) = orElse-none (rule2 b) _ rest in
+      let (three, four) = orElse-none (rule3 b) _ more in
+      laid b one three four
+
+  -- rules 1 to 8 kept
+  record Kept : Type 0 where
+    seven : rule7 b ≡ none
+    eight : rule8 b ≡ none
+    ranged-so : Ranged b
+
+  kept : firstRules b ≡ none → Kept
+  unfolding firstRules
+  kept e =
+      let (trailer, from5) = orElse-none (trailerRules b) _ e in
+      let (five, from6) = orElse-none (rule5 b) _ from5 in
+      let (six, from7) = orElse-none (rule6 b) _ from6 in
+      let (seven, eight) = orElse-none (rule7 b) _ from7 in
+      record {
+        seven = seven;
+        eight = eight;
+        ranged-so = ranged b (filled b (entered b (trailer-laid trailer) five) six) seven;
+      }
+
+  pub first-ranged : firstRules b ≡ none → Ranged b
+  first-ranged e = kept e .ranged-so
+
+  refusal-last : refusalOf b ≡ firstRules b orElse rule9 b
+  unfolding refusalOf firstRules
+  refusal-last =
+      let from5 = rule5 b orElse rule6 b orElse rule7 b orElse rule8 b in
+      sym (orElse-assoc (trailerRules b) from5 (rule9 b)
+      ∙ orElse-assoc (rule1 b) (rule2 b orElse rule3 b orElse rule4 b) (from5 orElse rule9 b)
+      ∙ ap (λ x. rule1 b orElse x) (orElse-assoc (rule2 b) (rule3 b orElse rule4 b) (from5 orElse rule9 b)
+      ∙ ap (λ x. rule2 b orElse x) (orElse-assoc (rule3 b) (rule4 b) (from5 orElse rule9 b)
+      ∙ ap (λ x. rule3 b orElse (rule4 b orElse x)) (orElse-assoc (rule5 b) (rule6 b orElse rule7 b orElse rule8 b) (rule9 b)
+      ∙ ap (λ x. rule5 b orElse x) (orElse-assoc (rule6 b) (rule7 b orElse rule8 b) (rule9 b)
+      ∙ ap (λ x. rule6 b orElse x) (orElse-assoc (rule7 b) (rule8 b) (rule9 b)))))))
+
+  reply-by : (x : Option Reply) → refusalOf b ≡ x → checkReply b ≡ x otherwise answer 0 (machineCount b ∷ hyperperiod (decode b) ∷ [])
+  reply-by x e = ap (λ y. y otherwise answer 0 (machineCount b ∷ hyperperiod (decode b) ∷ [])) e
+
+  pub check-broken : {r : Reply} → firstRules b ≡ some r → checkReply b ≡ r
+  check-broken e = reply-by _ (refusal-last ∙ orElse-found (rule9 b) e)
+
+  pub check-nine : firstRules b ≡ none → 1024 < hyperperiod (decode b) → checkReply b ≡ refusal 9 0 0
+  check-nine e l =
+      reply-by _ (refusal-last ∙ orElse-clear (rule9 b) e ∙ ap (λ t. unless t (refusal 9 0 0)) (lt-leb (hyperperiod (decode b)) 1024 l))
+
+  none-refused : firstRules b ≡ none → hyperperiod (decode b) ≤ 1024 → refusalOf b ≡ none
+  none-refused e l =
+      refusal-last ∙ orElse-clear (rule9 b) e ∙ ap (λ t. unless t (refusal 9 0 0)) (le-leb (hyperperiod (decode b)) 1024 l)
+
+  pub check-accepts : firstRules b ≡ none → hyperperiod (decode b) ≤ 1024
+      → checkReply b ≡ answer 0 (machineCount b ∷ hyperperiod (decode b) ∷ [])
+  check-accepts e l = reply-by _ (none-refused e l)
+
+  -- a sheet that no rule refuses is accepted, with all that this gives
+  pub not-refused : refusalOf b ≡ none → IsAccepted b
+  not-refused e =
+      let (first, nine) = orElse-none (firstRules b) (rule9 b) (sym refusal-last ∙ e) in
+      let k = kept first in
+      accepted b (k .ranged-so) (k .seven) (k .eight) nine
+
+refusal-of : ℕ → ℕ → ℕ → Refusal
+refusal-of n first second = record { number = n; first = first; second = second }
+
+pub same-refusal : (r s : Refusal) → r .number ≡ s .number → r .first ≡ s .first → r .second ≡ s .second → r ≡ s
+unfolding refusal-of
+same-refusal r s n f g =
+    ap (λ x. refusal-of x (r .first) (r .second)) n
+    ∙ ap (λ x. refusal-of (s .number) x (r .second)) f
+    ∙ ap (λ x. refusal-of (s .number) (s .first) x) g
+
+-- no second result satisfies the contract of `check`
+paper-injective : (r s : Checked) → paper r ≡ paper s → r ≡ s
+paper-injective (Accepted m h) (Accepted n i) e = cc
+paper-injective (Accepted m h) (Refused s) e = absurd (let z : _≡_ {A = ℕ} 0 1 = cc in omega arith)
+paper-injective (Refused r) (Accepted n i) e = absurd (let z : _≡_ {A = ℕ} 0 1 = cc in omega arith)
+paper-injective (Refused r) (Refused s) e = ap Refused (same-refusal r s (cc) (cc) (cc))
+
+pub check-unique : (b : List ℕ) (r s : Checked) → paper r ≡ checkReply b → paper s ≡ checkReply b → r ≡ s
+check-unique b r s p q = paper-injective r s (p ∙ sym q)

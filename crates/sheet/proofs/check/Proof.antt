@@ -1,0 +1,59 @@
+use Rattle.sheet.proofs.Answer.{check-broken, check-nine, check-accepts, first-ranged}
+use Rattle.sheet.specs.Inside.{found, firstRules, Ranged}
+use Rattle.sheet.specs.Reply.{answer}
+use native.Mathlib.Omega.{arith}
+use Prim.Native.Nat.{ℕ}
+use mathlib.Core.Option.{none}
+use mathlib.Core.List.{[], _∷_}
+use mathlib.Core.Path.{_≡_, sym, _∙_, ap, ap₂}
+use borrow.Author.Needs.{needs}
+use Rattle.sheet.proofs.check.Statement.{statement}
+use Rattle.sheet.proofs.check.Tie as tie
+
+-- rules 1 to 8 are kept
+kept : (c : tie.After-enum-told) → firstRules (c .before .before .before .before .args .sheet .now) ≡ none
+kept c = sym (c .before .before .first-rules .ensures) ∙ ap found (c .enum-told .given .1)
+
+first-rules-requires : tie.Need-first-rules-requires
+first-rules-requires c κs = search needs
+
+enum-known-rule : tie.Need-enum-known-rule
+enum-known-rule c = search needs
+
+returns : tie.Need-returns
+returns c = sym (check-broken _ (sym (c .before .before .before .first-rules .ensures) ∙ ap found (c .before .rule .given .1)))
+
+enum-told : tie.Need-enum-told
+enum-told c = search needs
+
+hyperperiod-of-requires : tie.Need-hyperperiod-of-requires
+hyperperiod-of-requires c κs = first-ranged _ (kept c)
+
+returns-2 : tie.Need-returns-2
+returns-2 c = sym (check-nine _ (kept (c .before .before)) (c .before .hyperperiod-of .ensures .above (c .if1 .taken)))
+
+machine-count-requires : tie.Need-machine-count-requires
+machine-count-requires c κs = omega (arith, first-ranged _ (kept (c .before .before)) .filled .entered .laid .long .0)
+
+cast-t8 : tie.Need-cast-t8
+cast-t8 c = search needs
+
+returns-3 : tie.Need-returns-3
+returns-3 c =
+    let same = c .before .before .hyperperiod-of .ensures .exact (c .before .if1 .left) in
+    ap₂ (λ (m h : ℕ). answer 0 (m ∷ h ∷ [])) (c .machine-count .ensures .0) same
+    ∙ sym (check-accepts _ (kept (c .before .before .before)) (omega arith))
+
+pub check-spec : {M : Type 1} → statement M
+check-spec =
+    tie.close
+    (tie.spec
+    first-rules-requires
+    enum-known-rule
+    returns
+    enum-told
+    hyperperiod-of-requires
+    returns-2
+    machine-count-requires
+    cast-t8
+    returns-3)
