@@ -1,3 +1,4 @@
 pub mod Machine
 pub mod Legal
 pub mod Reckon
+pub mod Inside
