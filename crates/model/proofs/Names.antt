@@ -1,7 +1,7 @@
 -- The laws of Instant, MayBegin and cost. No other law looks behind these names or behind their tests.
 -- Assumes nothing.
-use Prim.Native.Nat.{ℕ, _+_, _-_, _*_, _/_, _%_, _≤_, _<_, _∣_}
-use mathlib.Core.Path.{_≡_, refl, sym, _∙_}
+use Prim.Native.Nat.{ℕ, _+_, _-_, _/_, _%_, _≤_, _<_, _∣_}
+use mathlib.Core.Path.{_≡_}
 use mathlib.Core.Bool.{true}
 use mathlib.Core.Logic.{_↔_, Iff·trans, Iff·symm}
 use native.Mathlib.Omega.{arith}
@@ -11,7 +11,7 @@ use borrow.Author.Tests.{eq-eqb, eqb-true, lt-ltb, ltb-true}
 use mathlib.Core.List.{List}
 use Rattle.number.proofs.Divide.{gcdOf-is, lcmOf-is}
 use Rattle.model.specs.Machine.{Machine, count, actionOf, machineOf, periods, divisor, allPeriods, hyperperiod}
-use Rattle.model.specs.Legal.{Instant, MayBegin, cost}
+use Rattle.model.specs.Legal.{Instant, MayBegin}
 use Rattle.model.specs.Reckon.{instant?, begins?}
 use Rattle.model.specs.Inside.{Repeats, Closed, Separate}
 use Rattle.model.proofs.Periods.{periods-each, all-periods-each}
@@ -76,3 +76,11 @@ hyperperiod-repeats ms positive i =
     multiple-repeats (machineOf ms i) (hyperperiod ms)
     (all-periods-each (λ a. a ∣ hyperperiod ms) ms .0
     (lcmOf-is (allPeriods ms) (all-periods-each (λ a. 0 < a) ms .1 positive) .multiple) i)
+
+-- what Closed says, of the tests
+pub closed-inside : {m : Machine} → Closed m → (q : ℕ) → begins? m q ≡ true → q < m .states
+closed-inside {m} c q e = c .inside q (begins?-law m q .0 e)
+
+pub closed-onward : {m : Machine} → Closed m → (k : ℕ) → k < count m → begins? m (actionOf m k .source) ≡ true
+    → begins? m (actionOf m k .sink) ≡ true
+closed-onward {m} c k l e = begins?-law m _ .1 (c .onward k l (begins?-law m _ .0 e))

@@ -8,7 +8,7 @@ use native.Mathlib.Omega.{arith}
 use native.Mathlib.Nat.{suc-add, mod-add-div'}
 use Rattle.model.specs.Machine.{Machine, count, actionOf}
 use Rattle.model.specs.Legal.{Instant, Pair, asked, askedBy, IsRequestBound, IsDemandBound}
-use Rattle.model.specs.Reckon.{instant?, begins?, most, pair, after, best, request, demand}
+use Rattle.model.specs.Reckon.{instant?, begins?, pair, after, best, request, demand}
 use Rattle.model.specs.Inside.{Repeats}
 use Rattle.model.proofs.Tests.{test-same, leb-same}
 use Rattle.model.proofs.Most.{most-cong}
