@@ -1,5 +1,6 @@
 pub mod Machine
 pub mod Legal
 pub mod Reckon
+pub mod Critical
 pub mod Inside
 pub mod Numbers
