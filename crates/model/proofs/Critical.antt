@@ -14,7 +14,8 @@ use borrow.Author.Tests.{eq-eqb, eqb-true}
 use Rattle.model.specs.Machine.{Machine, count}
 use Rattle.model.specs.Legal.{Pair, Within, total, cost, asked, IsRequestBound}
 use Rattle.model.specs.Reckon.{begins?, most, pair, open?, after, gain, best, request}
-use Rattle.model.specs.Critical.{Before, NotAfter, IsCritical, smallest, makes?, orElse, firstBest, critical}
+use Rattle.model.specs.Critical.{Before, NotAfter, Reaches, IsCritical}
+use Rattle.model.specs.Critical.{smallest, makes?, orElse, firstBest, critical}
 use Rattle.model.proofs.Tests.{both-true, cond-cases}
 use Rattle.model.proofs.Most.{most-above, most-at}
 use Rattle.model.proofs.Largest.{largest-unique}
@@ -101,7 +102,8 @@ module _ (m : Machine) (ok : Pair → Type 0) (w : Pair → ℕ) where
           → (makes k ≡ true) × (total w τ ≡ rest (after m k))
       unfolding best
       makes-begins k τ l o r q =
-          let x : total w τ ≤ rest (after m k) = best-upper m ok w f (λ p i. idle p) (suc t) n (after m k) τ (omega arith) r in
+          let x : total w τ ≤ rest (after m k) =
+          best-upper m ok w f (λ p i. idle p) (suc t) n (after m k) τ (omega arith) r in
           let y : w (pair k t) + rest (after m k) ≤ most (count m) (gain m w t rest from) =
           rw o at (most-above (count m) (gain m w t rest from) k l) in
           let z : w (pair k t) + rest (after m k) ≡ best m w t (suc n) from = omega arith in
@@ -120,12 +122,14 @@ module _ (m : Machine) (ok : Pair → Type 0) (w : Pair → ℕ) where
               first = later;
             }
           where
-            later : (τ : List Pair) → Onward m ok from t τ → total w τ ≡ best m w t (suc n) from → NotAfter (next from) τ
+            later : (τ : List Pair) → Onward m ok from t τ → total w τ ≡ best m w t (suc n) from
+                → NotAfter (next from) τ
             later [] r e = good from .first [] tt (e ∙ makes-none h)
             later (p ∷ τ) (i, o, l, k, r) e =
                 ⊎-elim
                 (λ z.
-                let (x, y) = makes-begins (p .action) τ i (rw z o) (rw z r) (omega (arith, ap (λ u. w (pair (p .action) u)) z)) in
+                let same : w p ≡ w (pair (p .action) t) = ap (λ u. w (pair (p .action) u)) (sym z) in
+                let (x, y) = makes-begins (p .action) τ i (rw z o) (rw z r) (omega arith) in
                 absurd (false≢true (sym (h (p .action) i) ∙ x)))
                 (λ z. good from .first (p ∷ τ) (i, o, z, k, r) (e ∙ makes-none h))
                 (eq-or-lt-of-le l)
@@ -144,11 +148,13 @@ module _ (m : Machine) (ok : Pair → Type 0) (w : Pair → ℕ) where
             begun q (p ∷ τ) (j, o, d, k, r) e =
                 ⊎-elim
                 (λ z.
-                let (x, y) = makes-begins (p .action) τ j (rw z o) (rw z r) (omega (arith, ap (λ u. w (pair (p .action) u)) z)) in
+                let same : w p ≡ w (pair (p .action) t) = ap (λ u. w (pair (p .action) u)) (sym z) in
+                let (x, y) = makes-begins (p .action) τ j (rw z o) (rw z r) (omega arith) in
                 elim (decLt i (p .action)) [
                   | yes c ↦ inl (inr (z, c))
                   | no c ↦
-                      ⊎-elim (λ u. inr (ap₂ pair (sym u) z, rw (sym u) (good (after m (p .action)) .first τ (rw z r) y)))
+                      ⊎-elim
+                      (λ u. inr (ap₂ pair (sym u) z, rw (sym u) (good (after m (p .action)) .first τ (rw z r) y)))
                       (λ u. absurd (false≢true (sym (h (p .action) u) ∙ x)))
                       (eq-or-lt-of-le (let v : p .action ≤ i = omega arith in v))
                 ])
@@ -159,41 +165,40 @@ module _ (m : Machine) (ok : Pair → Type 0) (w : Pair → ℕ) where
       → ((p : Pair) → s ≤ p .instant → p .instant < f → ok p) → ((p : Pair) → p .action < count m → 0 < w p)
       → (t n : ℕ) (from : ℕ → Bool) → s ≤ t → t + n ≡ f → Good t n from (firstBest m w t n from)
   unfolding firstBest
-  firstBest-good s f idle fits pos t zero from a b = record { goes = tt; all = unfold best in refl; first = λ τ r e. tt }
-  firstBest-good s f idle fits pos t (suc n) from a b =
-      good-more t n from s f idle a b fits pos (firstBest m w (suc t) n)
-      (λ g. firstBest-good s f idle fits pos (suc t) n g (omega arith) (omega arith))
+  firstBest-good s f idle fits positive t zero from a b =
+      record { goes = tt; all = unfold best in refl; first = λ τ r e. tt }
+  firstBest-good s f idle fits positive t (suc n) from a b =
+      good-more t n from s f idle a b fits positive (firstBest m w (suc t) n)
+      (λ g. firstBest-good s f idle fits positive (suc t) n g (omega arith) (omega arith))
       (smallest (count m) (makes t n from)) (smallest-is (count m) (makes t n from))
 
--- what costs are at least 1 makes sure of: there is one of each window, and it is the one that is found
-module _ (m : Machine) (positive : (k : ℕ) → k < count m → 0 < cost m k) where
-  pub critical-is : (s n f : ℕ) → s + n ≡ f → IsCritical m s f (critical m s n)
-  unfolding critical request
-  critical-is s n f e =
-      let g =
-      firstBest-good m (Within s f) (asked m) s f (λ p k l. absurd (omega arith)) (λ p a b. (a, b)) (λ p. positive (p .action))
-      s n (begins? m) (omega arith) e in
-      let (a, b) = onward-legal m (Within s f) s (firstBest m (asked m) s n (begins? m)) (g .goes) in
-      record {
-        reaches = record { legal = a; within = b; bound = rw (g .all) (request-is m s n f e) };
-        first = λ τ x.
-            g .first τ (legal-onward m (Within s f) s (λ p k. k .0) τ (x .legal) (x .within))
-            (largest-unique (x .bound) (request-is m s n f e));
-      }
-
-  -- where the bound is 0 it is empty
-  pub critical-empty : (s f : ℕ) (σ : List Pair) → IsCritical m s f σ → IsRequestBound m s f 0 → σ ≡ []
-  critical-empty s f [] c z = refl
-  critical-empty s f (p ∷ σ) c z =
-      let h : Onward m (Within s f) (begins? m) s (p ∷ σ) =
-      legal-onward m (Within s f) s (λ p k. k .0) (p ∷ σ) (c .reaches .legal) (c .reaches .within) in
-      absurd (omega (arith, largest-unique (c .reaches .bound) z, positive (p .action) (h .0)))
+reaches-onward : (m : Machine) (s f : ℕ) (σ : List Pair) → Reaches m s f σ → Onward m (Within s f) (begins? m) s σ
+reaches-onward m s f σ h = legal-onward m (Within s f) s (λ p k. k .0) σ (h .legal) (h .within)
 
 -- a window has room for one pair a tick
 pub critical-length : (m : Machine) (s n f : ℕ) (σ : List Pair) → s + n ≡ f → IsCritical m s f σ → length σ ≤ n
 critical-length m s n f σ e c =
     omega (
       arith,
-      onward-length m (Within s f) f (λ p k. k .1) (begins? m) s σ (omega arith)
-          (legal-onward m (Within s f) s (λ p k. k .0) σ (c .reaches .legal) (c .reaches .within)),
+      onward-length m (Within s f) f (λ p k. k .1) (begins? m) s σ (omega arith) (reaches-onward m s f σ (c .reaches)),
     )
+
+-- where costs are at least 1, `critical` finds it, and it is empty where the bound is 0
+module _ (m : Machine) (positive : (k : ℕ) → k < count m → 0 < cost m k) where
+  pub critical-is : (s n f : ℕ) → s + n ≡ f → IsCritical m s f (critical m s n)
+  unfolding critical request
+  critical-is s n f e =
+      let found : Good m (Within s f) (asked m) s n (begins? m) (critical m s n) =
+      firstBest-good m (Within s f) (asked m) s f (λ p k l. absurd (omega arith)) (λ p a b. (a, b))
+      (λ p. positive (p .action)) s n (begins? m) (omega arith) e in
+      let (a, b) = onward-legal m (Within s f) s (critical m s n) (found .goes) in
+      record {
+        reaches = record { legal = a; within = b; bound = rw (found .all) (request-is m s n f e) };
+        first = λ τ h. found .first τ (reaches-onward m s f τ h) (largest-unique (h .bound) (request-is m s n f e));
+      }
+
+  pub critical-empty : (s f : ℕ) (σ : List Pair) → IsCritical m s f σ → IsRequestBound m s f 0 → σ ≡ []
+  critical-empty s f [] c z = refl
+  critical-empty s f (p ∷ σ) c z =
+      let goes : Onward m (Within s f) (begins? m) s (p ∷ σ) = reaches-onward m s f (p ∷ σ) (c .reaches) in
+      absurd (omega (arith, largest-unique (c .reaches .bound) z, positive (p .action) (goes .0)))

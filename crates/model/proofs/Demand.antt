@@ -17,7 +17,7 @@ use Rattle.model.specs.Inside.{Closed, Separate, into?, brings, ends, fi
 use Rattle.model.proofs.Tests.{both-true, cond-cases, cond-cong}
 use Rattle.model.proofs.Most.{most-above, most-below, most-cong, most-max}
 use Rattle.model.proofs.Names.{instant?-law, closed-inside, closed-onward}
-use Rattle.model.proofs.Bounds.{asked-late, asked-due}
+use Rattle.model.proofs.Bounds.{askedBy-late, askedBy-due}
 use Rattle.model.proofs.Ends.{brings-cases, moved-cong, ends-best}
 
 -- weights that agree at the instants of [s, s + n) give the same figures
@@ -119,7 +119,7 @@ module _ (m : Machine) (c : Closed m) (apart : Separate m) where
     due-before : (i u : ℕ) → i < count m → u < k → instant? m i (s + u) ≡ true
         → askedBy m (s + n) (pair i (s + u)) ≡ asked m (pair i (s + u))
     due-before i u l b y =
-        asked-due m (s + n) (pair i (s + u))
+        askedBy-due m (s + n) (pair i (s + u))
         (⊎-elim (λ z. absurd (omega arith))
         (λ (j, d, z).
         omega (arith, last .early, apart .gap i j (s + u) (s + k) l d (instant?-law m i (s + u) .0 y) z (omega arith)))
@@ -128,7 +128,7 @@ module _ (m : Machine) (c : Closed m) (apart : Separate m) where
     due-after : (i u : ℕ) → i < count m → k < u → u ≤ n → instant? m i (s + u) ≡ true
         → askedBy m (s + n) (pair i (s + u)) ≡ 0
     due-after i u l a b y =
-        ⊎-elim (λ e. asked-late m (s + n) (pair i (s + u)) (omega (arith, apart .positive i l)))
+        ⊎-elim (λ e. askedBy-late m (s + n) (pair i (s + u)) (omega (arith, apart .positive i l)))
         (λ d. absurd (last .none i u l a d (instant?-law m i (s + u) .0 y))) (eq-or-lt-of-le b)
 
   -- the demand bound from the figures at the last instant

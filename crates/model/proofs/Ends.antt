@@ -92,7 +92,8 @@ module _ (m : Machine) (ok : Pair → Type 0) (w : Pair → ℕ) (s : ℕ) where
   ends-reached f fits (suc n) q τ l h r =
       let r′ : Onward m ok (eqb q) (suc (s + n)) τ = subst (λ (t : ℕ). Onward m ok (eqb q) t τ) (omega arith) r in
       elim (decLe (most (count m) (brings m w (s + n) (ends m w s n) q)) (ends m w s n q)) [
-        | yes d ↦ (let (σ, x, e) = ends-reached f fits n q τ (omega arith) h (onward-sooner m ok (eqb q) (s + n) τ r′) in
+        | yes d ↦ (let sooner = onward-sooner m ok (eqb q) (s + n) τ r′ in
+            let (σ, x, e) = ends-reached f fits n q τ (omega arith) h sooner in
             (σ, x, omega arith))
         | no d ↦
             ⊎-elim (λ z. absurd (omega arith))

@@ -67,7 +67,8 @@ right?-law : (m : Machine) → Closed m → (r : Number) → right? m r ≡ true
 unfolding right? request demand
 right?-law m c (requestOf s f v) t =
     let (l, e) = both-true (leb s f) _ t in
-    rw (sym (eqb-true _ v e) ∙ top-best m (asked m) c s (f - s)) (request-is m s (f - s) f (omega (arith, leb-true s f l)))
+    rw (sym (eqb-true _ v e) ∙ top-best m (asked m) c s (f - s))
+    (request-is m s (f - s) f (omega (arith, leb-true s f l)))
 right?-law m c (demandOf s f v) t =
     let (l, e) = both-true (leb s f) _ t in
     rw (sym (eqb-true _ v e) ∙ top-best m (askedBy m (s + (f - s))) c s (suc (f - s)))

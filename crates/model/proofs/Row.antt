@@ -27,8 +27,8 @@ module _ (m : Machine) (w : Pair → ℕ) (s : ℕ) where
       (record {
         at = λ q l.
             g .at q l
-            ∙ moved-cong m w w (s + n) (figure old) (ends m w s n) (λ k l i. refl) (λ p b. h .at p (closed-inside c p b)) q
-            (h .at q l);
+            ∙ moved-cong m w w (s + n) (figure old) (ends m w s n) (λ k l i. refl)
+            (λ p b. h .at p (closed-inside c p b)) q (h .at q l);
       })
 
   -- its largest figure is the bound
