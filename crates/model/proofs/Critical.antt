@@ -63,6 +63,57 @@ smallest-is (suc n) f = more (smallest n f) (smallest-is n f) (f n) refl
     more none h false e = λ j l. ⊎-elim (λ z. ap f z ∙ e) (λ k. h j k) (eq-or-lt-of-le (le-of-suc-le-suc l))
     more (some i) h b e = (omega arith, h .1, h .2)
 
+-- and nothing else is the smallest
+smallest-unique : (n : ℕ) (f : ℕ → Bool) (o r : Option ℕ) → Smallest n f o → Smallest n f r → o ≡ r
+unfolding Smallest
+smallest-unique n f none none a b = refl
+smallest-unique n f none (some j) a b = absurd (false≢true (sym (a j (b .0)) ∙ b .1))
+smallest-unique n f (some i) none a b = absurd (false≢true (sym (b i (a .0)) ∙ a .1))
+smallest-unique n f (some i) (some j) a b =
+    elim (decLt i j) [
+      | yes l ↦ absurd (false≢true (sym (b .2 i l) ∙ a .1))
+      | no l ↦
+          elim (decLt j i) [
+            | yes h ↦ absurd (false≢true (sym (a .2 j h) ∙ b .1))
+            | no h ↦ ap some (omega arith)
+          ]
+    ]
+
+-- one tick of the search
+module _ (m : Machine) (w : Pair → ℕ) (t n : ℕ) (from : ℕ → Bool) where
+  -- if no action at t makes the total up, the later ticks do
+  pub best-waits : ((j : ℕ) → j < count m → makes? m w t n from j ≡ false)
+      → best m w t (suc n) from ≡ best m w (suc t) n from
+  unfolding best
+  best-waits h =
+      elim (decLe (most (count m) (gain m w t rest from)) (rest from)) [
+        | yes d ↦ omega arith
+        | no d ↦
+            ⊎-elim (λ z. absurd (omega arith))
+            (λ (k, l, e).
+            ⊎-elim (λ z. absurd (omega arith))
+            (λ (o, g).
+            let q : w (pair k t) + rest (after m k) ≡ best m w t (suc n) from = omega arith in
+            absurd (false≢true (sym (h k l) ∙ rw (o, eq-eqb _ _ q) refl)))
+            (cond-cases (open? m from (pair k t)) (w (pair k t) + rest (after m k))))
+            (most-at (count m) (gain m w t rest from))
+      ]
+    where
+      rest : (ℕ → Bool) → ℕ
+      rest = best m w (suc t) n
+
+  pub firstBest-waits : ((j : ℕ) → j < count m → makes? m w t n from j ≡ false)
+      → firstBest m w t (suc n) from ≡ firstBest m w (suc t) n from
+  unfolding firstBest Smallest
+  firstBest-waits h = rw (smallest-unique (count m) _ (smallest _ _) none (smallest-is (count m) _) h) refl
+
+  pub firstBest-takes : (k : ℕ) → k < count m → makes? m w t n from k ≡ true
+      → ((j : ℕ) → j < k → makes? m w t n from j ≡ false)
+      → firstBest m w t (suc n) from ≡ pair k t ∷ firstBest m w (suc t) n (after m k)
+  unfolding firstBest Smallest
+  firstBest-takes k l e h =
+      rw (smallest-unique (count m) _ (smallest _ _) (some k) (smallest-is (count m) _) (l, e, h)) refl
+
 module _ (m : Machine) (ok : Pair → Type 0) (w : Pair → ℕ) where
   -- σ goes onward, reaches the largest total, and is the first that does
   record Good (t n : ℕ) (from : ℕ → Bool) (σ : List Pair) : Type 0 where
@@ -71,29 +122,11 @@ module _ (m : Machine) (ok : Pair → Type 0) (w : Pair → ℕ) where
     first : (τ : List Pair) → Onward m ok from t τ → total w τ ≡ best m w t n from → NotAfter σ τ
 
   module _ (t n : ℕ) (from : ℕ → Bool) where
-    -- the largest total of what follows, and the test whether action k at t makes up the whole
     abbrev rest : (ℕ → Bool) → ℕ
     rest = best m w (suc t) n
 
     abbrev makes : ℕ → Bool
-    makes = makes? m w t rest from (best m w t (suc n) from)
-
-    -- if no action at t makes it up, the later ticks do
-    makes-none : ((j : ℕ) → j < count m → makes j ≡ false) → best m w t (suc n) from ≡ rest from
-    unfolding best
-    makes-none h =
-        elim (decLe (most (count m) (gain m w t rest from)) (rest from)) [
-          | yes d ↦ omega arith
-          | no d ↦
-              ⊎-elim (λ z. absurd (omega arith))
-              (λ (k, l, e).
-              ⊎-elim (λ z. absurd (omega arith))
-              (λ (o, g).
-              let q : w (pair k t) + rest (after m k) ≡ best m w t (suc n) from = omega arith in
-              absurd (false≢true (sym (h k l) ∙ rw (o, eq-eqb _ _ q) refl)))
-              (cond-cases (open? m from (pair k t)) (w (pair k t) + rest (after m k))))
-              (most-at (count m) (gain m w t rest from))
-        ]
+    makes = makes? m w t n from
 
     module _ (s f : ℕ) (idle : (p : Pair) → ok p → f ≤ p .instant → w p ≡ 0) (a : s ≤ t) (b : t + suc n ≡ f) where
       -- what reaches it with an action at t does so with one that makes it up, and has the best rest
@@ -112,26 +145,26 @@ module _ (m : Machine) (ok : Pair → Type 0) (w : Pair → ℕ) where
       module _ (fits : (p : Pair) → s ≤ p .instant → p .instant < f → ok p)
           (positive : (p : Pair) → p .action < count m → 0 < w p) (next : (ℕ → Bool) → List Pair)
           (good : (g : ℕ → Bool) → Good (suc t) n g (next g)) where
-        good-more : (o : Option ℕ) → Smallest (count m) makes o
+        good-more : (o : Option ℕ) → Smallest (count m) (makes) o
             → Good t (suc n) from (orElse o (λ k. pair k t ∷ next (after m k)) (next from))
         unfolding Smallest
         good-more none h =
             record {
               goes = onward-sooner m ok from t (next from) (good from .goes);
-              all = good from .all ∙ sym (makes-none h);
+              all = good from .all ∙ sym (best-waits m w t n from h);
               first = later;
             }
           where
             later : (τ : List Pair) → Onward m ok from t τ → total w τ ≡ best m w t (suc n) from
                 → NotAfter (next from) τ
-            later [] r e = good from .first [] tt (e ∙ makes-none h)
+            later [] r e = good from .first [] tt (e ∙ best-waits m w t n from h)
             later (p ∷ τ) (i, o, l, k, r) e =
                 ⊎-elim
                 (λ z.
                 let same : w p ≡ w (pair (p .action) t) = ap (λ u. w (pair (p .action) u)) (sym z) in
                 let (x, y) = makes-begins (p .action) τ i (rw z o) (rw z r) (omega arith) in
                 absurd (false≢true (sym (h (p .action) i) ∙ x)))
-                (λ z. good from .first (p ∷ τ) (i, o, z, k, r) (e ∙ makes-none h))
+                (λ z. good from .first (p ∷ τ) (i, o, z, k, r) (e ∙ best-waits m w t n from h))
                 (eq-or-lt-of-le l)
         good-more (some i) (l, v, h) =
             let (o, e) = both-true _ _ v in

@@ -7,7 +7,7 @@ use mathlib.Core.List.{List, [], _∷_}
 use mathlib.Core.Logic.{_⊎_, inl, inr, ⊎-elim}
 use native.Mathlib.Omega.{arith}
 use native.Mathlib.Decide.{decLe}
-use native.Mathlib.Nat.{le-antisymm, eq-or-lt-of-le, suc-mul}
+use native.Mathlib.Nat.{le-antisymm, eq-or-lt-of-le, suc-mul, add-zero}
 use lib.Dec.{eqb}
 use borrow.Author.Tests.{eq-eqb, eqb-true}
 use Rattle.model.specs.Machine.{Machine, count, actionOf}
@@ -17,7 +17,7 @@ use Rattle.model.specs.Inside.{Closed, into?, brings, moved, ends}
 use Rattle.model.proofs.Tests.{true-or-false, both-true, cond-cases, cond-cong}
 use Rattle.model.proofs.Most.{most-above, most-below, most-at, most-cong}
 use Rattle.model.proofs.Names.{closed-inside, closed-onward}
-use Rattle.model.proofs.Onward.{Onward, onward-sooner}
+use Rattle.model.proofs.Onward.{Onward, onward-sooner, onward-wider, onward-source}
 use Rattle.model.proofs.Best.{onward-idle, best-upper, best-lower}
 
 pub brings-cases : (m : Machine) (w : Pair → ℕ) (t : ℕ) (row : ℕ → ℕ) (q k : ℕ)
@@ -76,19 +76,13 @@ module _ (m : Machine) (ok : Pair → Type 0) (w : Pair → ℕ) (s : ℕ) where
       (λ l. omega (arith, ends-covers c f idle (suc j) n q (p ∷ σ) (omega arith) h (i, o, omega arith, b, r)))
       (eq-or-lt-of-le a)
 
-  -- a sequence that goes on from a state in which one may begin may itself begin
-  onward-begins : (q t : ℕ) (σ : List Pair) → begins? m q ≡ true → Onward m ok (eqb q) t σ → Onward m ok (begins? m) t σ
-  onward-begins q t [] h r = tt
-  onward-begins q t (p ∷ σ) h (i, o, a, b, r) =
-      let (x, y) = both-true _ _ o in (i, rw (← (eqb-true q _ x), h, y) refl, a, b, r)
-
   -- a sequence that goes on from q is the end of one that has q's figure besides
   ends-reached : (f : ℕ) → ((p : Pair) → s ≤ p .instant → p .instant < s + f → ok p) → (n q : ℕ) (τ : List Pair) → n ≤ f
       → begins? m q ≡ true → Onward m ok (eqb q) (s + n) τ
       → (σ : List Pair) × Onward m ok (begins? m) s σ × (total w σ ≡ ends m w s n q + total w τ)
   unfolding ends
   ends-reached f fits zero q τ l h r =
-      (τ, onward-begins q s τ h (subst (λ (t : ℕ). Onward m ok (eqb q) t τ) (omega arith) r), omega arith)
+      (τ, onward-wider m ok (begins? m) q s τ h (subst (λ (t : ℕ). Onward m ok (eqb q) t τ) (omega arith) r), omega arith)
   ends-reached f fits (suc n) q τ l h r =
       let r′ : Onward m ok (eqb q) (suc (s + n)) τ = subst (λ (t : ℕ). Onward m ok (eqb q) t τ) (omega arith) r in
       elim (decLe (most (count m) (brings m w (s + n) (ends m w s n) q)) (ends m w s n q)) [
@@ -147,13 +141,13 @@ ends-best m w c s n = le-antisymm above below
 
     covered : (σ : List Pair) → Onward m ok (begins? m) s σ → total w σ ≤ most (m .states) (ends m w s n)
     covered [] r = omega arith
-    covered (p ∷ σ) (i, o, a, b, r) =
+    covered (p ∷ σ) r =
         let q = actionOf m (p .action) .source in
-        let (x, y) = both-true _ _ o in
+        let goes : Onward m ok (eqb q) (s + 0) (p ∷ σ) = rw add-zero (onward-source m ok (begins? m) s p σ r) in
         omega (
           arith,
-          ends-covers m ok w s c n (λ p a b. absurd (omega arith)) 0 n q (p ∷ σ) (omega arith) x
-              (i, rw (eq-eqb q _ refl, y) refl, omega arith, b, r),
+          ends-covers m ok w s c n (λ p a b. absurd (omega arith)) 0 n q (p ∷ σ) (omega arith)
+              (both-true (begins? m q) _ (r .1) .0) goes,
         )
 
     below : best m w s n (begins? m) ≤ most (m .states) (ends m w s n)

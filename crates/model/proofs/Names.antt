@@ -3,9 +3,9 @@
 -- Assumes nothing.
 use Prim.Native.Nat.{ℕ, _+_, _-_, _/_, _%_, _≤_, _<_, _∣_}
 use mathlib.Core.Path.{_≡_, refl}
-use mathlib.Core.Bool.{true}
+use mathlib.Core.Bool.{true, false}
 use mathlib.Core.List.{List}
-use mathlib.Core.Logic.{_↔_, Iff·trans, Iff·symm}
+use mathlib.Core.Logic.{_↔_, ⊎-elim, Iff·trans, Iff·symm}
 use native.Mathlib.Omega.{arith}
 use native.Mathlib.Nat.{div-add-mod', dvd-mul-left, mod-eq-zero-of-dvd, dvd-of-mod-eq-zero}
 use native.Mathlib.Nat.{dvd-add-iff-left, dvd-sub, dvd-trans, le-of-dvd}
@@ -16,6 +16,7 @@ use Rattle.model.specs.Machine.{Machine, count, actionOf, machineOf, per
 use Rattle.model.specs.Legal.{Instant, MayBegin, cost}
 use Rattle.model.specs.Reckon.{instant?, begins?}
 use Rattle.model.specs.Inside.{Repeats, Closed, Separate}
+use Rattle.model.proofs.Tests.{true-or-false}
 use Rattle.model.proofs.Periods.{periods-each, all-periods-each}
 
 -- what the names come to, for the code that reckons with them
@@ -49,6 +50,10 @@ instant?-law m k t = (
   λ e. instant-divides m k t .1 (dvd-of-mod-eq-zero (actionOf m k .period) (eqb-true _ 0 e)),
   λ i. eq-eqb _ 0 (mod-eq-zero-of-dvd (actionOf m k .period) (instant-divides m k t .0 i)),
 )
+
+pub instant?-false : (m : Machine) (k t : ℕ) → (Instant m k t → ⊥) → instant? m k t ≡ false
+instant?-false m k t h =
+    ⊎-elim (λ e. absurd (h (instant?-law m k t .0 e))) (λ e. e) (true-or-false (instant? m k t))
 
 pub begins?-law : (m : Machine) (q : ℕ) → (begins? m q ≡ true) ↔ MayBegin m q
 unfolding begins? MayBegin

@@ -37,9 +37,10 @@ unfoldable pub smallest : ℕ → (ℕ → Bool) → Option ℕ
 smallest zero f = none
 smallest (suc n) f = elim (smallest n f) [ none ↦ cond (f n) (some n) none | some i ↦ some i ]
 
--- action k may be triggered at t, and with the best that follows it makes up v
-abbrev pub makes? : Machine → (Pair → ℕ) → ℕ → ((ℕ → Bool) → ℕ) → (ℕ → Bool) → ℕ → ℕ → Bool
-makes? m w t rest from v k = open? m from (pair k t) && eqb (w (pair k t) + rest (after m k)) v
+-- action k may be triggered at t, and with the best that follows it makes up the largest total of [t, t + n]
+abbrev pub makes? : Machine → (Pair → ℕ) → ℕ → ℕ → (ℕ → Bool) → ℕ → Bool
+makes? m w t n from k =
+    open? m from (pair k t) && eqb (w (pair k t) + best m w (suc t) n (after m k)) (best m w t (suc n) from)
 
 -- `go k` where there is a number k, else `stay`
 abbrev pub orElse : Option ℕ → (ℕ → List Pair) → List Pair → List Pair
@@ -50,8 +51,8 @@ orElse (some k) go stay = go k
 unfoldable pub firstBest : Machine → (Pair → ℕ) → ℕ → ℕ → (ℕ → Bool) → List Pair
 firstBest m w t zero from = []
 firstBest m w t (suc n) from =
-    let found = smallest (count m) (makes? m w t (best m w (suc t) n) from (best m w t (suc n) from)) in
-    orElse found (λ k. pair k t ∷ firstBest m w (suc t) n (after m k)) (firstBest m w (suc t) n from)
+    orElse (smallest (count m) (makes? m w t n from)) (λ k. pair k t ∷ firstBest m w (suc t) n (after m k))
+    (firstBest m w (suc t) n from)
 
 -- the critical sequence of [s, s + n)
 unfoldable pub critical : Machine → ℕ → ℕ → List Pair
