@@ -35,7 +35,8 @@ module _ (m : Machine) (w : Pair → ℕ) where
             g .at q l
             ∙ ap₂ max (later q l)
             (most-cong (count m) _ _ (λ k b.
-            cond-cong (open? m (eqb q) (pair k t)) _ _ (λ e. ap (λ v. w (pair k t) + v) (later (actionOf m k .sink) (sinks k b)))));
+            cond-cong (open? m (eqb q) (pair k t)) _ _ (λ e.
+            ap (λ v. w (pair k t) + v) (later (actionOf m k .sink) (sinks k b)))));
       })
     where
       later : (q : ℕ) → q < m .states → figure old q ≡ best m w (suc t) n (eqb q)
@@ -46,6 +47,9 @@ module _ (m : Machine) (w : Pair → ℕ) where
       → most states (λ q. cond (from q) (best m w t n (eqb q)) 0) ≡ best m w t n from
   best-states t n from states inside = le-antisymm above below
     where
+      from-one : ℕ → ℕ
+      from-one q = cond (from q) (best m w t n (eqb q)) 0
+
       ok : Pair → Type 0
       ok p = p .instant < t + n
 
@@ -55,14 +59,14 @@ module _ (m : Machine) (w : Pair → ℕ) where
       lower : (g : ℕ → Bool) → (σ : List Pair) × Onward m ok g t σ × (total w σ ≡ best m w t n g)
       lower g = best-lower m ok w t (t + n) (λ p a b. b) t n g (omega arith) (omega arith)
 
-      above : most states (λ q. cond (from q) (best m w t n (eqb q)) 0) ≤ best m w t n from
+      above : most states from-one ≤ best m w t n from
       above =
           most-below states _ _ (λ q l.
           ⊎-elim (λ z. omega arith)
           (λ (b, e). let (σ, r, f) = lower (eqb q) in omega (arith, upper from σ (onward-wider m ok from q t σ b r)))
           (cond-cases (from q) (best m w t n (eqb q))))
 
-      one : (σ : List Pair) → Onward m ok from t σ → total w σ ≤ most states (λ q. cond (from q) (best m w t n (eqb q)) 0)
+      one : (σ : List Pair) → Onward m ok from t σ → total w σ ≤ most states from-one
       one [] r = omega arith
       one (p ∷ σ) r =
           let q = actionOf m (p .action) .source in
@@ -70,10 +74,10 @@ module _ (m : Machine) (w : Pair → ℕ) where
           omega (
             arith,
             upper (eqb q) (p ∷ σ) (onward-source m ok from t p σ r),
-            rw b at (most-above states (λ q. cond (from q) (best m w t n (eqb q)) 0) q (inside q b)),
+            rw b at (most-above states from-one q (inside q b)),
           )
 
-      below : best m w t n from ≤ most states (λ q. cond (from q) (best m w t n (eqb q)) 0)
+      below : best m w t n from ≤ most states from-one
       below = let (σ, r, e) = lower from in omega (arith, one σ r)
 
 -- the request bound from the row of the window's start

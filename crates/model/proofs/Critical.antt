@@ -2,13 +2,13 @@
 -- Assumes nothing.
 use Prim.Native.Nat.{ℕ, zero, suc, _+_, _≤_, _<_}
 use mathlib.Core.Path.{_≡_, refl, sym, _∙_, ap, ap₂}
-use mathlib.Core.Bool.{Bool, true, false, cond, false≢true}
+use mathlib.Core.Bool.{Bool, true, false, false≢true}
 use mathlib.Core.List.{List, [], _∷_}
 use mathlib.Core.Option.{Option, none, some}
 use mathlib.Core.Logic.{inl, inr, ⊎-elim}
 use native.Mathlib.Omega.{arith}
 use native.Mathlib.Decide.{decLe, decLt}
-use native.Mathlib.Nat.{eq-or-lt-of-le, le-of-suc-le-suc}
+use native.Mathlib.Nat.{eq-or-lt-of-le}
 use lib.ListN.{length}
 use borrow.Author.Tests.{eq-eqb, eqb-true}
 use Rattle.model.specs.Machine.{Machine, count}
@@ -18,6 +18,7 @@ use Rattle.model.specs.Critical.{Before, NotAfter, Reaches, IsCritical}
 use Rattle.model.specs.Critical.{smallest, makes?, orElse, firstBest, critical}
 use Rattle.model.proofs.Tests.{both-true, cond-cases}
 use Rattle.model.proofs.Most.{most-above, most-at}
+use Rattle.model.proofs.Smallest.{Smallest, smallest-is, smallest-unique}
 use Rattle.model.proofs.Largest.{largest-unique}
 use Rattle.model.proofs.Onward.{Onward, onward-sooner, onward-length, legal-onward, onward-legal}
 use Rattle.model.proofs.Best.{best-upper}
@@ -47,38 +48,6 @@ notAfter-both (p ∷ σ) (r ∷ τ) (inr a) (inr b) = ap₂ _∷_ (a .0) (notAft
 pub critical-unique : (m : Machine) (s f : ℕ) (σ τ : List Pair) → IsCritical m s f σ → IsCritical m s f τ → σ ≡ τ
 critical-unique m s f σ τ a b = notAfter-both σ τ (a .first τ (b .reaches)) (b .first σ (a .reaches))
 
--- what `smallest` tells
-Smallest : ℕ → (ℕ → Bool) → Option ℕ → Type 0
-Smallest n f none = (j : ℕ) → j < n → f j ≡ false
-Smallest n f (some i) = (i < n) × (f i ≡ true) × ((j : ℕ) → j < i → f j ≡ false)
-
-smallest-is : (n : ℕ) (f : ℕ → Bool) → Smallest n f (smallest n f)
-unfolding smallest Smallest
-smallest-is zero f = λ j h. absurd (omega arith)
-smallest-is (suc n) f = more (smallest n f) (smallest-is n f) (f n) refl
-  where
-    more : (o : Option ℕ) → Smallest n f o → (b : Bool) → f n ≡ b
-        → Smallest (suc n) f (elim o [ none ↦ cond b (some n) none | some i ↦ some i ])
-    more none h true e = (omega arith, e, h)
-    more none h false e = λ j l. ⊎-elim (λ z. ap f z ∙ e) (λ k. h j k) (eq-or-lt-of-le (le-of-suc-le-suc l))
-    more (some i) h b e = (omega arith, h .1, h .2)
-
--- and nothing else is the smallest
-smallest-unique : (n : ℕ) (f : ℕ → Bool) (o r : Option ℕ) → Smallest n f o → Smallest n f r → o ≡ r
-unfolding Smallest
-smallest-unique n f none none a b = refl
-smallest-unique n f none (some j) a b = absurd (false≢true (sym (a j (b .0)) ∙ b .1))
-smallest-unique n f (some i) none a b = absurd (false≢true (sym (b i (a .0)) ∙ a .1))
-smallest-unique n f (some i) (some j) a b =
-    elim (decLt i j) [
-      | yes l ↦ absurd (false≢true (sym (b .2 i l) ∙ a .1))
-      | no l ↦
-          elim (decLt j i) [
-            | yes h ↦ absurd (false≢true (sym (a .2 j h) ∙ b .1))
-            | no h ↦ ap some (omega arith)
-          ]
-    ]
-
 -- one tick of the search
 module _ (m : Machine) (w : Pair → ℕ) (t n : ℕ) (from : ℕ → Bool) where
   -- if no action at t makes the total up, the later ticks do
@@ -104,13 +73,13 @@ module _ (m : Machine) (w : Pair → ℕ) (t n : ℕ) (from : ℕ → Bool) wher
 
   pub firstBest-waits : ((j : ℕ) → j < count m → makes? m w t n from j ≡ false)
       → firstBest m w t (suc n) from ≡ firstBest m w (suc t) n from
-  unfolding firstBest Smallest
+  unfolding firstBest
   firstBest-waits h = rw (smallest-unique (count m) _ (smallest _ _) none (smallest-is (count m) _) h) refl
 
   pub firstBest-takes : (k : ℕ) → k < count m → makes? m w t n from k ≡ true
       → ((j : ℕ) → j < k → makes? m w t n from j ≡ false)
       → firstBest m w t (suc n) from ≡ pair k t ∷ firstBest m w (suc t) n (after m k)
-  unfolding firstBest Smallest
+  unfolding firstBest
   firstBest-takes k l e h =
       rw (smallest-unique (count m) _ (smallest _ _) (some k) (smallest-is (count m) _) (l, e, h)) refl
 
@@ -145,9 +114,8 @@ module _ (m : Machine) (ok : Pair → Type 0) (w : Pair → ℕ) where
       module _ (fits : (p : Pair) → s ≤ p .instant → p .instant < f → ok p)
           (positive : (p : Pair) → p .action < count m → 0 < w p) (next : (ℕ → Bool) → List Pair)
           (good : (g : ℕ → Bool) → Good (suc t) n g (next g)) where
-        good-more : (o : Option ℕ) → Smallest (count m) (makes) o
+        good-more : (o : Option ℕ) → Smallest (count m) makes o
             → Good t (suc n) from (orElse o (λ k. pair k t ∷ next (after m k)) (next from))
-        unfolding Smallest
         good-more none h =
             record {
               goes = onward-sooner m ok from t (next from) (good from .goes);

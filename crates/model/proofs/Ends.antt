@@ -82,7 +82,8 @@ module _ (m : Machine) (ok : Pair → Type 0) (w : Pair → ℕ) (s : ℕ) where
       → (σ : List Pair) × Onward m ok (begins? m) s σ × (total w σ ≡ ends m w s n q + total w τ)
   unfolding ends
   ends-reached f fits zero q τ l h r =
-      (τ, onward-wider m ok (begins? m) q s τ h (subst (λ (t : ℕ). Onward m ok (eqb q) t τ) (omega arith) r), omega arith)
+      let r′ : Onward m ok (eqb q) s τ = subst (λ (t : ℕ). Onward m ok (eqb q) t τ) (omega arith) r in
+      (τ, onward-wider m ok (begins? m) q s τ h r′, omega arith)
   ends-reached f fits (suc n) q τ l h r =
       let r′ : Onward m ok (eqb q) (suc (s + n)) τ = subst (λ (t : ℕ). Onward m ok (eqb q) t τ) (omega arith) r in
       elim (decLe (most (count m) (brings m w (s + n) (ends m w s n) q)) (ends m w s n q)) [

@@ -1,5 +1,6 @@
 -- What only inner functions and the laws between them speak of: nothing here is needed to read a public contract.
--- First what the laws ask of a machine, then the bounds from the front, a row of figures that a loop moves on.
+-- In order: what the laws ask of a machine; rows of figures from the front, and the demand of each length from them;
+-- rows from the back, for the critical sequence; the plain reckoner.
 use Prim.Native.Nat.{ℕ, zero, suc, _+_, _≤_, _<_, max}
 use mathlib.Core.Path.{_≡_}
 use mathlib.Core.Bool.{Bool, cond, _&&_}
@@ -67,7 +68,7 @@ dueThen m t end row k =
     let due = open? m (begins? m) (pair k t) && leb (t + actionOf m k .deadline) end in
     cond due (row (actionOf m k .source) + asked m (pair k t)) 0
 
--- from the back, for the critical sequence: `row` has each state's largest total from it with instants in [t, t + n)
+-- `row` has each state's largest total from it on, with instants in [t, t + n)
 pub record IsBack (m : Machine) (w : Pair → ℕ) (t n : ℕ) (row : List ℕ) : Type 0 where
   pub at : (q : ℕ) → q < m .states → figure row q ≡ best m w t n (eqb q)
 
