@@ -11,7 +11,8 @@ use lib.ListN.{length}
 use borrow.Author.Tests.{ltb-true, leb-true, eqb-true}
 use Rattle.model.specs.Machine.{Action, Machine, count, actionOf, machineOf, divisor, hyperperiod}
 use Rattle.model.specs.Sizes.{Between, ActionSizes, MachineSizes, Sizes}
-use Rattle.model.proofs.Sizes.{divisor-divides, hyperperiod-positive, period-divides-hyperperiod}
+use Rattle.model.proofs.Names.{divisor-divides}
+use Rattle.model.proofs.Sizes.{hyperperiod-positive, period-divides-hyperperiod}
 use Rattle.sheet.specs.Format.{entry, trailerOffset, machineCount, decode}
 use Rattle.sheet.specs.Reply.{refusal}
 use Rattle.sheet.specs.Rules.{between, trailerInRange, entryInRange, entryRefusal, actionsBefore, offsetRefusal, endRefusal, actionInRange, deadlineInRange, actionRefusal, machineRefusal, firstOf, rule1, rule3, rule4, rule5, rule6, rule7, rule8, rule9}
@@ -128,7 +129,7 @@ module _ (b : List ℕ) where
         machines = decode-count b;
         sizes = sizes;
         divisor = λ k j known l. divisor-divides (machineOf (decode b) k) j l;
-        common = λ k j known l. period-divides-hyperperiod (decode b) sizes k j (omega (arith, decode-count b)) l;
+        common = λ k j known l. period-divides-hyperperiod (decode b) sizes k j l;
         hyperperiod = (hyperperiod-positive (decode b) sizes, sizes .hyperperiod);
       }
     where

@@ -7,7 +7,8 @@ use native.Mathlib.Omega.{arith}
 use lib.ListN.{length}
 use Rattle.model.specs.Machine.{Machine, count, actionOf, machineOf, periods, allPeriods}
 use Rattle.number.specs.Divide.{Each}
-use Rattle.model.proofs.Sizes.{periods-each, periods-positive}
+use Rattle.model.proofs.Periods.{periods-each, all-periods-each}
+use Rattle.model.proofs.Sizes.{has-actions}
 use Rattle.sheet.specs.Format.{actionAt, entry, machineCount, decode}
 use Rattle.sheet.specs.Inside.{Filled, Ranged}
 use Rattle.sheet.proofs.Decode.{decode-count, decode-action}
@@ -26,7 +27,9 @@ module _ {b : List ℕ} {k n f j : ℕ} (filled : Filled b) (known : k < machine
 
 -- the periods of a machine, and of all machines, are positive
 pub machine-positive : {b : List ℕ} (k : ℕ) → Ranged b → k < machineCount b → Each (λ p. 0 < p) (periods (machineOf (decode b) k))
-machine-positive {b} k h known = periods-each (λ p. 0 < p) (machineOf (decode b) k) (λ j l. h .period k j known l .0)
+machine-positive {b} k h known = periods-each (λ p. 0 < p) (machineOf (decode b) k) .1 (λ j l. h .period k j known l .0)
 
 pub all-positive : {b : List ℕ} → Ranged b → Each (λ p. 0 < p) (allPeriods (decode b))
-all-positive {b} h = periods-positive (decode b) (λ k j l m. h .period k j (omega (arith, decode-count b)) m .0)
+all-positive {b} h =
+    all-periods-each (λ p. 0 < p) (decode b) .1
+    (λ k j l. h .period k j (omega (arith, decode-count b, has-actions (decode b) k j l)) l .0)

@@ -1,6 +1,6 @@
 use Rattle.sheet.proofs.Walk.{action-inside, period-read}
 use Rattle.sheet.specs.Format.{decode}
-use Rattle.model.proofs.Periods.{Taking, divisor-begin, taking-more, taking-end}
+use Rattle.model.proofs.Taking.{Taking, divisor-begin, taking-more, taking-end}
 use Rattle.model.specs.Machine.{machineOf, divisor}
 use Rattle.number.specs.Divide.{gcd}
 use native.Mathlib.Omega.{arith}

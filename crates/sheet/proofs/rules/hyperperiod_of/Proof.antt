@@ -1,7 +1,7 @@
 use Rattle.sheet.proofs.Walk.{machine-positive, all-positive}
 use Rattle.sheet.proofs.Decode.{decode-count}
 use Rattle.sheet.specs.Format.{machineCount, decode}
-use Rattle.model.proofs.Periods.{Gathering, gathering-begin, gathering-more, gathering-end, gathering-rises}
+use Rattle.model.proofs.Taking.{Gathering, gathering-begin, gathering-more, gathering-end, gathering-rises}
 use Rattle.model.specs.Sizes.{Between}
 use Rattle.model.specs.Machine.{machineOf, periods, hyperperiod}
 use Rattle.number.proofs.Divide.{lcms-positive}

@@ -1,6 +1,6 @@
 use Rattle.sheet.proofs.Walk.{action-inside, period-read, machine-positive}
 use Rattle.sheet.specs.Format.{decode}
-use Rattle.model.proofs.Periods.{Taking, taking-begin, taking-more, taking-end, taking-rises}
+use Rattle.model.proofs.Taking.{Taking, taking-begin, taking-more, taking-end, taking-rises}
 use Rattle.model.specs.Sizes.{Between}
 use Rattle.model.specs.Machine.{machineOf, periods, actionOf}
 use Rattle.number.proofs.Divide.{lcm-positive}
