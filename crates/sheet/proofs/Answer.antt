@@ -11,7 +11,7 @@ use Rattle.sheet.specs.declared.Checked.{Checked}
 use Rattle.sheet.specs.declared.Checked.the-variants.{Accepted, Refused}
 use Rattle.sheet.specs.declared.Refusal.{Refusal}
 use Rattle.sheet.specs.Format.{machineCount, decode}
-use Rattle.sheet.specs.Reply.{Reply, answer, refusal, paper}
+use Rattle.sheet.specs.Reply.{Reply, answer, refusal, refused, paper}
 use Rattle.sheet.specs.Rules.{unless, _orElse_, rule1, rule2, rule3, rule4, rule5, rule6, rule7, rule8, rule9}
 use Rattle.sheet.specs.Check.{refusalOf, _otherwise_, checkReply}
 use Rattle.sheet.specs.Inside.{trailerRules, firstRules, Laid, Entered, Filled, Ranged}
@@ -61,13 +61,13 @@ module _ (b : List ℕ) where
       ∙ ap (λ x. rule5 b orElse x) (orElse-assoc (rule6 b) (rule7 b orElse rule8 b) (rule9 b)
       ∙ ap (λ x. rule6 b orElse x) (orElse-assoc (rule7 b) (rule8 b) (rule9 b)))))))
 
-  reply-by : (x : Option Reply) → refusalOf b ≡ x → checkReply b ≡ x otherwise answer 0 (machineCount b ∷ hyperperiod (decode b) ∷ [])
+  reply-by : (x : Option Refusal) → refusalOf b ≡ x → checkReply b ≡ x otherwise answer 0 (machineCount b ∷ hyperperiod (decode b) ∷ [])
   reply-by x e = ap (λ y. y otherwise answer 0 (machineCount b ∷ hyperperiod (decode b) ∷ [])) e
 
-  pub check-broken : {r : Reply} → firstRules b ≡ some r → checkReply b ≡ r
+  pub check-broken : {r : Refusal} → firstRules b ≡ some r → checkReply b ≡ refused r
   check-broken e = reply-by _ (refusal-last ∙ orElse-found (rule9 b) e)
 
-  pub check-nine : firstRules b ≡ none → 1024 < hyperperiod (decode b) → checkReply b ≡ refusal 9 0 0
+  pub check-nine : firstRules b ≡ none → 1024 < hyperperiod (decode b) → checkReply b ≡ refused (refusal 9 0 0)
   check-nine e l =
       reply-by _ (refusal-last ∙ orElse-clear (rule9 b) e ∙ ap (λ t. unless t (refusal 9 0 0)) (lt-leb (hyperperiod (decode b)) 1024 l))
 
@@ -86,22 +86,33 @@ module _ (b : List ℕ) where
       let k = kept first in
       accepted b (k .ranged-so) (k .seven) (k .eight) nine
 
-refusal-of : ℕ → ℕ → ℕ → Refusal
-refusal-of n first second = record { number = n; first = first; second = second }
+-- what an answer of `check` tells
+module _ (b : List ℕ) where
+  decided : (x : Option Refusal) → refusalOf b ≡ x → (r : Checked) → paper r ≡ checkReply b
+      → paper r ≡ x otherwise answer 0 (machineCount b ∷ hyperperiod (decode b) ∷ [])
+  decided x e r p = p ∙ reply-by b x e
 
-pub same-refusal : (r s : Refusal) → r .number ≡ s .number → r .first ≡ s .first → r .second ≡ s .second → r ≡ s
-unfolding refusal-of
-same-refusal r s n f g =
-    ap (λ x. refusal-of x (r .first) (r .second)) n
-    ∙ ap (λ x. refusal-of (s .number) x (r .second)) f
-    ∙ ap (λ x. refusal-of (s .number) (s .first) x) g
+  pub refused-so : {r : Checked} {x : Refusal} → paper r ≡ checkReply b → r ≡ Refused x → refusalOf b ≡ some x
+  refused-so {r} {x} p e = cases (refusalOf b) refl
+    where
+      cases : (y : Option Refusal) → refusalOf b ≡ y → refusalOf b ≡ some x
+      cases none q = absurd (let h = decided none q r p in let z : _≡_ {A = ℕ} 0 1 = cc in omega arith)
+      cases (some y) q = let h = decided (some y) q r p in let z : y ≡ x = cc in q ∙ ap some z
+
+  pub accepted-so : {r : Checked} {m h : ℕ} → paper r ≡ checkReply b → r ≡ Accepted m h
+      → (refusalOf b ≡ none) × (m ≡ machineCount b) × (h ≡ hyperperiod (decode b))
+  accepted-so {r} {m} {h} p e = cases (refusalOf b) refl
+    where
+      cases : (y : Option Refusal) → refusalOf b ≡ y → (refusalOf b ≡ none) × (m ≡ machineCount b) × (h ≡ hyperperiod (decode b))
+      cases none q = let d = decided none q r p in (q, cc, cc)
+      cases (some y) q = absurd (let d = decided (some y) q r p in let z : _≡_ {A = ℕ} 0 1 = cc in omega arith)
 
 -- no second result satisfies the contract of `check`
 paper-injective : (r s : Checked) → paper r ≡ paper s → r ≡ s
 paper-injective (Accepted m h) (Accepted n i) e = cc
 paper-injective (Accepted m h) (Refused s) e = absurd (let z : _≡_ {A = ℕ} 0 1 = cc in omega arith)
 paper-injective (Refused r) (Accepted n i) e = absurd (let z : _≡_ {A = ℕ} 0 1 = cc in omega arith)
-paper-injective (Refused r) (Refused s) e = ap Refused (same-refusal r s (cc) (cc) (cc))
+paper-injective (Refused r) (Refused s) e = cc
 
 pub check-unique : (b : List ℕ) (r s : Checked) → paper r ≡ checkReply b → paper s ≡ checkReply b → r ≡ s
 check-unique b r s p q = paper-injective r s (p ∙ sym q)

@@ -5,15 +5,15 @@ use Rattle.sheet.specs.declared.Checked.{Checked}
 use Rattle.sheet.specs.declared.Checked.the-variants.{Accepted, Refused}
 use Rattle.sheet.specs.declared.Refusal.{Refusal}
 
+-- a refusal: its number in the table, and its place
+abbrev pub refusal : ℕ → ℕ → ℕ → Refusal
+refusal n first second = record { number = n; first = first; second = second }
+
 -- what a call replies
 pub data Reply : Type 0 where
-  -- a proper result: the table's number of it, 0 if it has none, and its figures
+  -- a proper result: its number in the table, 0 if it has none, and its figures
   answer : (number : ℕ) (figures : List ℕ) → Reply
-  -- a refusal: the table's number of it, and its place
-  refusal : (number first second : ℕ) → Reply
-
-abbrev pub refused : Refusal → Reply
-refused r = refusal (r .number) (r .first) (r .second)
+  refused : Refusal → Reply
 
 -- the paper's number and values for each answer of `check`
 abbrev pub paper : Checked → Reply

@@ -7,21 +7,22 @@ use lib.Dec.{leb, ltb, eqb}
 use lib.ListN.{length}
 use Rattle.model.specs.Machine.{Action, Machine, count, actionOf, machineOf, divisor, hyperperiod}
 use Rattle.sheet.specs.Format.{Entry, entry, trailerOffset, machineCount, lastFour, mark, decode}
-use Rattle.sheet.specs.Reply.{Reply, refusal}
+use Rattle.sheet.specs.declared.Refusal.{Refusal}
+use Rattle.sheet.specs.Reply.{refusal}
 
 -- where the test fails, the refusal
-abbrev pub unless : Bool → Reply → Option Reply
+abbrev pub unless : Bool → Refusal → Option Refusal
 unless true r = none
 unless false r = some r
 
 -- the earlier refusal, if there is one, or else the later
 infixr 20 _orElse_
-abbrev pub _orElse_ : Option Reply → Option Reply → Option Reply
+abbrev pub _orElse_ : Option Refusal → Option Refusal → Option Refusal
 none orElse later = later
 some r orElse later = some r
 
 -- the first refusal at the places 0 to k − 1
-unfoldable pub firstOf : ℕ → (ℕ → Option Reply) → Option Reply
+unfoldable pub firstOf : ℕ → (ℕ → Option Refusal) → Option Refusal
 firstOf zero at = none
 firstOf (suc k) at = firstOf k at orElse at k
 
@@ -36,15 +37,15 @@ same (x ∷ xs) [] = false
 same (x ∷ xs) (y ∷ ys) = eqb x y && same xs ys
 
 -- 1: length below 28 or above 2,124
-abbrev pub rule1 : List ℕ → Option Reply
+abbrev pub rule1 : List ℕ → Option Refusal
 rule1 b = unless (between 28 2124 (length b)) (refusal 1 0 0)
 
 -- 2: last four bytes differ
-abbrev pub rule2 : List ℕ → Option Reply
+abbrev pub rule2 : List ℕ → Option Refusal
 rule2 b = unless (same (lastFour b) mark) (refusal 2 0 0)
 
 -- 3: machine count 0 or above 8
-abbrev pub rule3 : List ℕ → Option Reply
+abbrev pub rule3 : List ℕ → Option Refusal
 rule3 b = unless (between 1 8 (machineCount b)) (refusal 3 0 0)
 
 -- 4: 12 + 8M exceeds the length, or the trailer's offset is wrong
@@ -53,7 +54,7 @@ trailerInRange b =
     let tail = 12 + 8 * machineCount b in
     leb tail (length b) && eqb (trailerOffset b + tail) (length b)
 
-abbrev pub rule4 : List ℕ → Option Reply
+abbrev pub rule4 : List ℕ → Option Refusal
 rule4 b = unless (trailerInRange b) (refusal 4 0 0)
 
 -- 5: an entry has states, initial state, actions or zero byte out of range
@@ -61,10 +62,10 @@ abbrev pub entryInRange : Entry → Bool
 entryInRange e =
     between 1 16 (e .states) && ltb (e .initial) (e .states) && between 1 32 (e .actions) && eqb (e .zeroByte) 0
 
-abbrev pub entryRefusal : List ℕ → ℕ → Option Reply
+abbrev pub entryRefusal : List ℕ → ℕ → Option Refusal
 entryRefusal b k = unless (entryInRange (entry b k)) (refusal 5 k 0)
 
-abbrev pub rule5 : List ℕ → Option Reply
+abbrev pub rule5 : List ℕ → Option Refusal
 rule5 b = firstOf (machineCount b) (entryRefusal b)
 
 -- how many actions the machines before k have
@@ -73,13 +74,13 @@ actionsBefore b zero = 0
 actionsBefore b (suc k) = actionsBefore b k + entry b k .actions
 
 -- 6: an entry's offset is wrong, or actions do not end at the entries
-abbrev pub offsetRefusal : List ℕ → ℕ → Option Reply
+abbrev pub offsetRefusal : List ℕ → ℕ → Option Refusal
 offsetRefusal b k = unless (eqb (entry b k .offset) (8 * actionsBefore b k)) (refusal 6 k 0)
 
-abbrev pub endRefusal : List ℕ → ℕ → Option Reply
+abbrev pub endRefusal : List ℕ → ℕ → Option Refusal
 endRefusal b k = unless (eqb (trailerOffset b) (8 * actionsBefore b k)) (refusal 6 k 0)
 
-abbrev pub rule6 : List ℕ → Option Reply
+abbrev pub rule6 : List ℕ → Option Refusal
 rule6 b = firstOf (machineCount b) (offsetRefusal b) orElse endRefusal b (machineCount b)
 
 -- 7: an action's state, period or time out of range, or deadline 0
@@ -92,27 +93,27 @@ actionInRange m a =
     && leb 1 (a .deadline)
 
 -- the first refusal under number n at an action that fails a test: of machine k, and of all machines in order
-abbrev pub actionRefusal : (Machine → Action → Bool) → ℕ → Machine → ℕ → ℕ → Option Reply
+abbrev pub actionRefusal : (Machine → Action → Bool) → ℕ → Machine → ℕ → ℕ → Option Refusal
 actionRefusal test n m k j = unless (test m (actionOf m j)) (refusal n k j)
 
-abbrev pub machineRefusal : (Machine → Action → Bool) → ℕ → List ℕ → ℕ → Option Reply
+abbrev pub machineRefusal : (Machine → Action → Bool) → ℕ → List ℕ → ℕ → Option Refusal
 machineRefusal test n b k =
     let m = machineOf (decode b) k in
     firstOf (count m) (actionRefusal test n m k)
 
-abbrev pub actionsRefusal : (Machine → Action → Bool) → ℕ → List ℕ → Option Reply
+abbrev pub actionsRefusal : (Machine → Action → Bool) → ℕ → List ℕ → Option Refusal
 actionsRefusal test n b = firstOf (machineCount b) (machineRefusal test n b)
 
-abbrev pub rule7 : List ℕ → Option Reply
+abbrev pub rule7 : List ℕ → Option Refusal
 rule7 b = actionsRefusal actionInRange 7 b
 
 -- 8: deadline above the divisor
 abbrev pub deadlineInRange : Machine → Action → Bool
 deadlineInRange m a = leb (a .deadline) (divisor m)
 
-abbrev pub rule8 : List ℕ → Option Reply
+abbrev pub rule8 : List ℕ → Option Refusal
 rule8 b = actionsRefusal deadlineInRange 8 b
 
 -- 9: H above 1,024
-abbrev pub rule9 : List ℕ → Option Reply
+abbrev pub rule9 : List ℕ → Option Refusal
 rule9 b = unless (leb (hyperperiod (decode b)) 1024) (refusal 9 0 0)

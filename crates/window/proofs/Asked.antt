@@ -1,0 +1,63 @@
+-- The refusal of a question, by what has been found out on the way, and what a proper question gives.
+-- Assumes nothing.
+use Prim.Native.Nat.{ℕ, _+_, _≤_, _<_}
+use mathlib.Core.Path.{_≡_, _∙_, ap}
+use mathlib.Core.Bool.{true, false, _&&_}
+use mathlib.Core.List.{List}
+use mathlib.Core.Option.{none, some}
+use lib.Dec.{leb}
+use borrow.Author.Tests.{leb-true, lt-ltb, le-ltb, ltb-true}
+use Rattle.sheet.specs.declared.Refusal.{Refusal}
+use Rattle.sheet.specs.Format.{machineCount}
+use Rattle.sheet.specs.Reply.{refusal}
+use Rattle.sheet.specs.Rules.{unless}
+use Rattle.sheet.specs.Check.{refusalOf}
+use Rattle.sheet.specs.Inside.{Accepted}
+use Rattle.sheet.proofs.First.{unless-none, orElse-none, orElse-found, orElse-clear}
+use Rattle.sheet.proofs.Tests.{both}
+use Rattle.sheet.proofs.Answer.{not-refused}
+use Rattle.window.specs.Window.{windowInRange, rule10, rule11, questionRefusal}
+
+module _ (b : List ℕ) (i s f : ℕ) where
+  pub question-sheet : {r : Refusal} → refusalOf b ≡ some r → questionRefusal b i s f ≡ some r
+  unfolding questionRefusal
+  question-sheet e = orElse-found _ e
+
+  pub question-machine : refusalOf b ≡ none → machineCount b ≤ i → questionRefusal b i s f ≡ some (refusal 10 0 0)
+  unfolding questionRefusal
+  question-machine e l =
+      orElse-clear _ e ∙ orElse-found _ (ap (λ t. unless t (refusal 10 0 0)) (le-ltb i (machineCount b) l))
+
+  in-sheet : refusalOf b ≡ none → i < machineCount b → questionRefusal b i s f ≡ rule11 s f
+  unfolding questionRefusal
+  in-sheet e l = orElse-clear _ e ∙ orElse-clear _ (ap (λ t. unless t (refusal 10 0 0)) (lt-ltb i (machineCount b) l))
+
+  pub question-window : refusalOf b ≡ none → i < machineCount b → windowInRange s f ≡ false
+      → questionRefusal b i s f ≡ some (refusal 11 0 0)
+  question-window e l w = in-sheet e l ∙ ap (λ t. unless t (refusal 11 0 0)) w
+
+  pub question-kept : refusalOf b ≡ none → i < machineCount b → windowInRange s f ≡ true → questionRefusal b i s f ≡ none
+  question-kept e l w = in-sheet e l ∙ ap (λ t. unless t (refusal 11 0 0)) w
+
+-- what a proper question gives
+pub record Proper (b : List ℕ) (i s f : ℕ) : Type 0 where
+  pub accepted : Accepted b
+  pub known : i < machineCount b
+  pub forward : s ≤ f
+  pub short : f ≤ s + 2048
+  pub near : f ≤ 1000000
+
+pub proper : (b : List ℕ) (i s f : ℕ) → questionRefusal b i s f ≡ none → Proper b i s f
+unfolding questionRefusal
+proper b i s f e =
+    let (sheet, rest) = orElse-none (refusalOf b) _ e in
+    let (machine, window) = orElse-none (rule10 b i) (rule11 s f) rest in
+    let (two, near) = both (leb s f && leb f (s + 2048)) (leb f 1000000) (unless-none _ (refusal 11 0 0) window) in
+    let (forward, short) = both (leb s f) (leb f (s + 2048)) two in
+    record {
+      accepted = not-refused b sheet;
+      known = ltb-true i (machineCount b) (unless-none _ (refusal 10 0 0) machine);
+      forward = leb-true s f forward;
+      short = leb-true f (s + 2048) short;
+      near = leb-true f 1000000 near;
+    }

@@ -1,0 +1,64 @@
+use Rattle.window.proofs.Asked.{question-sheet, question-machine, question-window, question-kept}
+use Rattle.sheet.proofs.Answer.{refused-so, accepted-so}
+use native.Mathlib.Omega.{arith}
+use borrow.Author.Tests.{not-true, not-false}
+use mathlib.Core.Path.{_≡_, sym, _∙_}
+use borrow.Author.Needs.{needs}
+use Rattle.window.proofs.question.Statement.{statement}
+use Rattle.window.proofs.question.Tie as tie
+
+check-requires : tie.Need-check-requires
+check-requires c κs = search needs
+
+enum-known-checked : tie.Need-enum-known-checked
+enum-known-checked c = search needs
+
+enum-known-checked-2 : tie.Need-enum-known-checked-2
+enum-known-checked-2 c = search needs
+
+refused-requires : tie.Need-refused-requires
+refused-requires c κs = search needs
+
+returns : tie.Need-returns
+returns c =
+    let told = c .before .before .before in
+    let (none, machines, h) = accepted-so _ (told .before .before .check .ensures) (told .checked2 .given .1) in
+    c .refused .ensures ∙ sym (question-machine _ _ _ _ none (omega (arith, c .before .if1 .taken)))
+
+in-range-requires : tie.Need-in-range-requires
+in-range-requires c κs = search needs
+
+refused-requires-2 : tie.Need-refused-requires-2
+refused-requires-2 c κs = search needs
+
+returns-2 : tie.Need-returns-2
+returns-2 c =
+    let told = c .before .before .before .before .before in
+    let (none, machines, h) = accepted-so _ (told .before .before .check .ensures) (told .checked2 .given .1) in
+    c .refused2 .ensures ∙ sym (question-window _ _ _ _ none (omega (arith, c .before .before .before .if1 .left))
+    (sym (c .before .before .in-range .ensures) ∙ not-true _ (c .before .if2 .taken)))
+
+returns-3 : tie.Need-returns-3
+returns-3 c = sym (question-sheet _ _ _ _ (refused-so _ (c .before .before .before .check .ensures) (c .before .checked .given .1)))
+
+returns-4 : tie.Need-returns-4
+returns-4 c =
+    let told = c .before .before .before .before in
+    let (none, machines, h) = accepted-so _ (told .before .before .check .ensures) (told .checked2 .given .1) in
+    sym (question-kept _ _ _ _ none (omega (arith, c .before .before .if1 .left))
+    (sym (c .before .in-range .ensures) ∙ not-false _ (c .if2 .left)))
+
+pub question-spec : {M : Type 1} → statement M
+question-spec =
+    tie.close
+    (tie.spec
+    check-requires
+    enum-known-checked
+    enum-known-checked-2
+    refused-requires
+    returns
+    in-range-requires
+    refused-requires-2
+    returns-2
+    returns-3
+    returns-4)

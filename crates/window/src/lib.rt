@@ -1,0 +1,58 @@
+// A question about a machine and a window: what may be asked, and how it is answered.
+// Definitions: specs/Window.antt.
+ghost use mathlib.Core.Path.{_≡_};
+ghost use mathlib.Core.Option.{some};
+ghost use Prim.Native.Nat.{_<_, _^_};
+ghost use Rattle.sheet.specs.Reply.{refusal};
+ghost use Rattle.sheet.specs.Inside.{found};
+ghost use Rattle.window.specs.Window.{questionRefusal};
+ghost use Rattle.window.specs.Window.{windowInRange as Window·inRange};
+use sheet::Checked;
+use sheet::Refusal;
+use sheet::Rule;
+
+// What a call answers that returns one number.
+pub enum Answer {
+    Value(u32),
+    Refused(Refusal),
+}
+
+// Refusals 1 to 9, then 10 and 11, of a question about a machine and the window from `from` to `to`.
+pub fn question(sheet: &[u8], machine: u32, from: u64, to: u64) -> Rule
+    requires { ⌜ from < 2 ^ 32 ⌝ }
+    ensures { λ r. ⌜ found r ≡ questionRefusal (now (sheet .entry)) machine from to ⌝ }
+{
+    let checked = sheet::check(sheet);
+    match checked {
+        Checked::Refused(refusal) => Rule::Broken(refusal),
+        Checked::Accepted {
+            machines,
+            hyperperiod: _,
+        } => {
+            if machines <= machine {
+                return refused(10);
+            }
+            if !in_range(from, to) {
+                return refused(11);
+            }
+            Rule::Kept
+        }
+    }
+}
+
+fn refused(number: u32) -> Rule
+    ensures { λ r. ⌜ found r ≡ some (refusal number 0 0) ⌝ }
+{
+    Rule::Broken(Refusal {
+        number,
+        first: 0,
+        second: 0,
+    })
+}
+
+fn in_range(from: u64, to: u64) -> bool
+    requires { ⌜ from < 2 ^ 32 ⌝ }
+    ensures { λ r. ⌜ r ≡ Window·inRange from to ⌝ }
+{
+    (from <= to) & (to <= from + 2048) & (to <= 1000000)
+}
