@@ -1,3 +1,4 @@
 pub mod Machine
 pub mod Sizes
 pub mod Legal
+pub mod Reckon

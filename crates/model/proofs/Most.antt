@@ -1,0 +1,34 @@
+-- The largest of the first n figures: it is above each, at most whatever is above each, and 0 or one of them.
+-- Assumes nothing.
+use Prim.Native.Nat.{ℕ, zero, suc, _≤_, _<_, max}
+use mathlib.Core.Path.{_≡_, refl, ap₂}
+use mathlib.Core.Logic.{_⊎_, inl, inr, ⊎-elim}
+use native.Mathlib.Omega.{arith}
+use native.Mathlib.Decide.{decLe}
+use native.Mathlib.Nat.{eq-or-lt-of-le, le-of-suc-le-suc}
+use Rattle.model.specs.Reckon.{most}
+
+pub most-above : (n : ℕ) (f : ℕ → ℕ) (i : ℕ) → i < n → f i ≤ most n f
+unfolding most
+most-above zero f i h = omega arith
+most-above (suc n) f i h =
+    ⊎-elim (λ e. rw e (omega arith)) (λ l. omega (arith, most-above n f i l)) (eq-or-lt-of-le (le-of-suc-le-suc h))
+
+pub most-below : (n : ℕ) (f : ℕ → ℕ) (v : ℕ) → ((i : ℕ) → i < n → f i ≤ v) → most n f ≤ v
+unfolding most
+most-below zero f v h = omega arith
+most-below (suc n) f v h = omega (arith, h n (omega arith), most-below n f v (λ i l. h i (omega arith)))
+
+pub most-at : (n : ℕ) (f : ℕ → ℕ) → (most n f ≡ 0) ⊎ ((i : ℕ) × (i < n) × (most n f ≡ f i))
+unfolding most
+most-at zero f = inl refl
+most-at (suc n) f =
+    elim (decLe (f n) (most n f)) [
+      | yes h ↦ ⊎-elim (λ z. inl (omega arith)) (λ (i, l, e). inr (i, omega arith, omega arith)) (most-at n f)
+      | no h ↦ inr (n, omega arith, omega arith)
+    ]
+
+pub most-cong : (n : ℕ) (f g : ℕ → ℕ) → ((i : ℕ) → i < n → f i ≡ g i) → most n f ≡ most n g
+unfolding most
+most-cong zero f g h = refl
+most-cong (suc n) f g h = ap₂ max (most-cong n f g (λ i l. h i (omega arith))) (h n (omega arith))
