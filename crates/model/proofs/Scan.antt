@@ -1,0 +1,97 @@
+-- The walk over the lengths gives what the definition gives; a length passes where its demand is at most the slack.
+-- Assumes nothing.
+use Prim.Native.Nat.{ℕ, zero, suc, pred, _+_, _-_, _≤_, _<_, max}
+use mathlib.Core.Path.{_≡_, refl, sym, ap, _∙_}
+use mathlib.Core.Bool.{Bool, true, false, cond, not}
+use mathlib.Core.Option.{Option, none, some}
+use mathlib.Core.List.{List}
+use mathlib.Core.Logic.{_⊎_, inl, inr, _↔_}
+use native.Mathlib.Omega.{arith}
+use native.Mathlib.Decide.{decLe}
+use lib.Dec.{leb}
+use borrow.Author.Tests.{le-leb, leb-true}
+use Rattle.model.specs.Machine.{Machine, machineOf}
+use Rattle.model.specs.Reckon.{best, request, demand}
+use Rattle.model.specs.Verdict.{smallest, requests, closes, closingLength, lastTested}
+use Rattle.model.specs.Verdict.{passes, failingLength, Judgement, given, gives}
+use Rattle.model.specs.Scan.{scan, slack}
+use Rattle.model.proofs.Tests.{true-or-false, test-same}
+use Rattle.model.proofs.Added.{added-zero}
+use Rattle.model.proofs.Search.{none-or-some, smallest-some, smallest-found, smallest-next, smallest-past}
+use Rattle.model.proofs.Verdict.{Passes, passes-some}
+
+module _ (ms : List Machine) (i s : ℕ) where
+  fails : ℕ → Bool
+  fails n = not (passes ms i s n)
+
+  -- the smallest closing length from n on, and what the lengths from n on give
+  closingFrom : ℕ → Option ℕ
+  closingFrom n = smallest n 2048 (closes ms i s)
+
+  givenFrom : ℕ → Option Judgement
+  givenFrom n = given ms i s (smallest n (lastTested (closingFrom n)) fails) (closingFrom n)
+
+  -- a length up to which none closes is tested
+  closing-after : (n : ℕ) → n ≤ 2048 → n ≤ lastTested (closingFrom (suc n))
+  unfolding closingFrom
+  closing-after n l = elim (none-or-some (closingFrom (suc n))) [
+    | inl z ↦ rw z l
+    | inr x ↦
+        let h : n ≤ pred (x .0) = omega (arith, smallest-some (suc n) 2048 (closes ms i s) (x .0) (x .1) .least) in
+        rw (x .1) h
+  ]
+
+  scan-given : (n left : ℕ) → 1 ≤ n → n + left ≡ 2049 → scan ms i s n left ≡ givenFrom n
+  unfolding scan givenFrom closingFrom fails
+  scan-given n zero a e =
+      rw (smallest-past n 2048 (closes ms i s) (omega arith)) (rw (smallest-past n 2048 fails (omega arith)))
+  scan-given n (suc left) a e = elim (true-or-false (closes ms i s n)) [
+    | inl z ↦
+        rw (z, scan, smallest-found n 2048 (closes ms i s) (omega arith) z)
+        (rw (smallest-past n (pred n) fails (omega arith)))
+    | inr z ↦
+        let last : ℕ = lastTested (closingFrom (suc n)) in
+        let l : n ≤ last = closing-after n (omega arith) in
+        rw (smallest-next n 2048 (closes ms i s) (omega arith) z) (elim (true-or-false (passes ms i s n)) [
+          | inl p ↦
+              rw (smallest-next n last fails l (rw p refl), z, p, scan) (scan-given (suc n) left (omega arith) (omega arith))
+          | inr p ↦ rw (smallest-found n last fails l (rw p refl), z, p, scan)
+        ])
+  ]
+
+  -- the walk from length 1 over 2,048 lengths, closing tested first, gives what the definition gives
+  pub scan-gives : scan ms i s 1 2048 ≡ gives ms i s
+  unfolding gives givenFrom closingFrom fails failingLength closingLength
+  scan-gives = scan-given 1 2048 (omega arith) (omega arith)
+
+  requests-empty : requests ms i s 0 ≡ 0
+  unfolding request best
+  requests-empty = added-zero i
+
+  slack-above : (n m : ℕ) → m ≤ n → m ≤ requests ms i s m + slack ms i s n
+  unfolding slack
+  slack-above zero m l = omega arith
+  slack-above (suc n) m l = elim (decLe m n) [
+    | yes h ↦ omega (arith, slack-above n m h)
+    | no h ↦ let e : m ≡ suc n = omega arith in rw e (omega arith)
+  ]
+
+  slack-room : (n : ℕ) → (m : ℕ) × (m ≤ n) × (slack ms i s n + requests ms i s m ≤ m)
+  unfolding slack
+  slack-room zero = (0, omega arith, omega (arith, requests-empty))
+  slack-room (suc n) = elim (decLe (suc n - requests ms i s (suc n)) (slack ms i s n)) [
+    | yes h ↦ let (m, l, e) = slack-room n in (m, omega arith, omega arith)
+    | no h ↦ (suc n, omega arith, omega arith)
+  ]
+
+  -- a length passes exactly where its demand is at most the slack
+  pub passes-slack : (n : ℕ) → passes ms i s n ≡ leb (demand (machineOf ms i) s n) (slack ms i s n)
+  passes-slack n = test-same (passes ms i s n) (leb d (slack ms i s n)) (
+    λ e. let (m, l, h) = passes-some ms i s n .0 e in le-leb d (slack ms i s n) (omega (arith, slack-above n m l)),
+    λ e.
+        let (m, l, h) = slack-room n in
+        passes-some ms i s n .1 (m, l, omega (arith, leb-true d (slack ms i s n) e)),
+  )
+    where
+      d : ℕ
+      d = demand (machineOf ms i) s n
