@@ -1,8 +1,9 @@
 -- The largest total of some sequences: there is one such number, and it grows with the sequences and with the weights.
 -- Assumes nothing.
 use Prim.Native.Nat.{ℕ, _≤_}
-use mathlib.Core.Path.{_≡_}
+use mathlib.Core.Path.{_≡_, sym, _∙_}
 use mathlib.Core.List.{List, [], _∷_}
+use mathlib.Core.Logic.{_↔_}
 use native.Mathlib.Omega.{arith}
 use Rattle.model.specs.Legal.{Pair, total, IsLargest}
 
@@ -17,3 +18,8 @@ largest-below {w = w} {v = v} f g x y =
 
 pub largest-unique : {P : List Pair → Type 0} {w : Pair → ℕ} {a b : ℕ} → IsLargest P w a → IsLargest P w b → a ≡ b
 largest-unique x y = omega (arith, x .limit (y .sequence) (y .holds), y .limit (x .sequence) (x .holds))
+
+-- where the largest is the same, the same numbers are the largest
+pub largest-same : {P Q : List Pair → Type 0} {w v : Pair → ℕ} {a b : ℕ} → IsLargest P w a → IsLargest Q v b → a ≡ b
+    → (u : ℕ) → IsLargest P w u ↔ IsLargest Q v u
+largest-same x y e u = (λ z. rw (largest-unique z x ∙ e) y, λ z. rw (largest-unique z y ∙ sym e) x)

@@ -1,7 +1,7 @@
 -- The largest of the first n figures: it is above each, at most whatever is above each, and 0 or one of them.
 -- Assumes nothing.
 use Prim.Native.Nat.{ℕ, zero, suc, _≤_, _<_, max}
-use mathlib.Core.Path.{_≡_, refl, ap₂}
+use mathlib.Core.Path.{_≡_, refl, sym, _∙_, ap₂}
 use mathlib.Core.Logic.{_⊎_, inl, inr, ⊎-elim}
 use native.Mathlib.Omega.{arith}
 use native.Mathlib.Decide.{decLe}
@@ -32,3 +32,16 @@ pub most-cong : (n : ℕ) (f g : ℕ → ℕ) → ((i : ℕ) → i < n → f i �
 unfolding most
 most-cong zero f g h = refl
 most-cong (suc n) f g h = ap₂ max (most-cong n f g (λ i l. h i (omega arith))) (h n (omega arith))
+
+max-spread : (v a b : ℕ) → max v (max a b) ≡ max (max v a) (max v b)
+max-spread v a b = omega arith
+
+-- figures that differ only where v is above both
+pub most-max : (n : ℕ) (v : ℕ) (f g : ℕ → ℕ) → ((i : ℕ) → i < n → max v (f i) ≡ max v (g i))
+    → max v (most n f) ≡ max v (most n g)
+unfolding most
+most-max zero v f g h = refl
+most-max (suc n) v f g h =
+    max-spread v (most n f) (f n)
+    ∙ ap₂ max (most-max n v f g (λ i l. h i (omega arith))) (h n (omega arith))
+    ∙ sym (max-spread v (most n g) (g n))

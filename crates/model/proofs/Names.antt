@@ -1,15 +1,20 @@
 -- The laws of Instant, MayBegin and cost. No other law looks behind these names or behind their tests.
 -- Assumes nothing.
-use Prim.Native.Nat.{ℕ, _*_, _/_, _%_, _<_, _∣_}
-use mathlib.Core.Path.{_≡_, refl, sym, _∙_}
+use Prim.Native.Nat.{ℕ, _+_, _-_, _/_, _%_, _≤_, _<_, _∣_}
+use mathlib.Core.Path.{_≡_}
 use mathlib.Core.Bool.{true}
-use mathlib.Core.Logic.{_↔_}
+use mathlib.Core.Logic.{_↔_, Iff·trans, Iff·symm}
 use native.Mathlib.Omega.{arith}
 use native.Mathlib.Nat.{div-add-mod', dvd-mul-left, mod-eq-zero-of-dvd, dvd-of-mod-eq-zero}
+use native.Mathlib.Nat.{dvd-add-iff-left, dvd-sub, dvd-trans, le-of-dvd}
 use borrow.Author.Tests.{eq-eqb, eqb-true, lt-ltb, ltb-true}
-use Rattle.model.specs.Machine.{Machine, count, actionOf}
-use Rattle.model.specs.Legal.{Instant, MayBegin, cost}
+use mathlib.Core.List.{List}
+use Rattle.number.proofs.Divide.{gcdOf-is, lcmOf-is}
+use Rattle.model.specs.Machine.{Machine, count, actionOf, machineOf, periods, divisor, allPeriods, hyperperiod}
+use Rattle.model.specs.Legal.{Instant, MayBegin}
 use Rattle.model.specs.Reckon.{instant?, begins?}
+use Rattle.model.specs.Inside.{Repeats, Closed, Separate}
+use Rattle.model.proofs.Periods.{periods-each, all-periods-each}
 
 -- an instant is a multiple of the period
 pub instant-divides : (m : Machine) (k t : ℕ) → Instant m k t ↔ (actionOf m k .period ∣ t)
@@ -30,3 +35,57 @@ instant?-law m k t = (
 pub begins?-law : (m : Machine) (q : ℕ) → (begins? m q ≡ true) ↔ MayBegin m q
 unfolding begins? MayBegin
 begins?-law m q = (ltb-true q (m .states), lt-ltb q (m .states))
+
+-- instants come again after a multiple of each period
+pub multiple-repeats : (m : Machine) (h : ℕ) → ((k : ℕ) → k < count m → actionOf m k .period ∣ h) → Repeats m h
+multiple-repeats m h d k l t =
+    Iff·trans (instant-divides m k (t + h))
+    (Iff·trans (Iff·symm (dvd-add-iff-left (actionOf m k .period) (d k l))) (Iff·symm (instant-divides m k t)))
+
+-- sinks that are states keep a sequence among the states
+pub sinks-closed : (m : Machine) → ((k : ℕ) → k < count m → actionOf m k .sink < m .states) → Closed m
+unfolding MayBegin
+sinks-closed m h = record { inside = λ q l. l; onward = λ k l a. h k l }
+
+-- instants are a common divisor of the periods apart, and so are deadlines that do not exceed it
+pub divisor-separates : (m : Machine) (g : ℕ) → ((k : ℕ) → k < count m → g ∣ actionOf m k .period)
+    → ((k : ℕ) → k < count m → (0 < actionOf m k .deadline) × (actionOf m k .deadline ≤ g)) → Separate m
+divisor-separates m g d h =
+    record {
+      positive = λ k l. h k l .0;
+      gap = λ k j u v a b x y l.
+          omega (
+            arith,
+            h k a .1,
+            le-of-dvd {m = g} {n = v - u} (omega arith)
+                (dvd-sub g (dvd-trans g (d j b) (instant-divides m j v .0 y)) (dvd-trans g (d k a) (instant-divides m k u .0 x))),
+          );
+    }
+
+-- the divisor of Machine.antt divides each period
+pub divisor-divides : (m : Machine) (k : ℕ) → k < count m → divisor m ∣ actionOf m k .period
+unfolding divisor
+divisor-divides m = periods-each (λ a. divisor m ∣ a) m .0 (gcdOf-is (periods m) .divides)
+
+-- the hyperperiod is a multiple of each period of the sheet, so that every machine's instants come again
+pub hyperperiod-repeats : (ms : List Machine)
+    → ((i k : ℕ) → k < count (machineOf ms i) → 0 < actionOf (machineOf ms i) k .period)
+    → (i : ℕ) → Repeats (machineOf ms i) (hyperperiod ms)
+unfolding hyperperiod
+hyperperiod-repeats ms positive i =
+    multiple-repeats (machineOf ms i) (hyperperiod ms)
+    (all-periods-each (λ a. a ∣ hyperperiod ms) ms .0
+    (lcmOf-is (allPeriods ms) (all-periods-each (λ a. 0 < a) ms .1 positive) .multiple) i)
+
+-- what Closed says, of the tests
+pub closed-inside : {m : Machine} → Closed m → (q : ℕ) → begins? m q ≡ true → q < m .states
+closed-inside {m} c q e = c .inside q (begins?-law m q .0 e)
+
+pub closed-onward : {m : Machine} → Closed m → (k : ℕ) → k < count m → begins? m (actionOf m k .source) ≡ true
+    → begins? m (actionOf m k .sink) ≡ true
+closed-onward {m} c k l e = begins?-law m _ .1 (c .onward k l (begins?-law m _ .0 e))
+
+-- a first pair may leave the initial state
+pub initial-begins : (m : Machine) → m .initial < m .states → MayBegin m (m .initial)
+unfolding MayBegin
+initial-begins m l = l
