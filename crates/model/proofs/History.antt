@@ -9,7 +9,7 @@ use Rattle.model.specs.Legal.{Instant, MayBegin, Pair, Taken, Chain, Leg
 use Rattle.model.specs.Reckon.{pair}
 use Rattle.model.specs.Run.{Seat, Choice, rest, fire, MayFire, Allowed, trigger}
 use Rattle.model.specs.Inside.{Closed, Separate}
-use Rattle.model.proofs.Bounds.{asked-due}
+use Rattle.model.proofs.Bounds.{askedBy-due}
 
 pub each-map : {P Q : Pair → Type 0} → ((p : Pair) → P p → Q p) → (l : List Pair) → Each P l → Each Q l
 each-map f [] h = tt
@@ -60,7 +60,7 @@ module _ (m : Machine) where
   -- of a sequence that is due by e, all counts in the demand
   pub due-asked : (e : ℕ) (l : List Pair) → Each (DueBy e) l → total (askedBy m e) l ≡ total (asked m) l
   due-asked e [] h = refl
-  due-asked e (p ∷ l) (h, hs) = omega (arith, asked-due m e p h, due-asked e l hs)
+  due-asked e (p ∷ l) (h, hs) = omega (arith, askedBy-due m e p h, due-asked e l hs)
 
 -- the work that a choice brings, and the history with it
 unfoldable pub brought : Choice → ℕ
@@ -83,8 +83,9 @@ module _ (m : Machine) (s t : ℕ) where
   pub since-begin : (q : ℕ) → MayBegin m q → Since m s t q [] 0
   since-begin q b = record { legal = tt; within = tt; ends = b; begins = b; enough = omega arith }
 
-  pub since-trigger : (l : List Pair) (load : ℕ) (x : Seat) (ch : Choice) → Closed m → s ≤ t → Since m s t (x .state) l load
-      → Allowed m t (x .state) ch → Since m s (suc t) (trigger m t ch x .state) (extend t ch l) (load + brought ch)
+  pub since-trigger : (l : List Pair) (load : ℕ) (x : Seat) (ch : Choice) → Closed m → s ≤ t
+      → Since m s t (x .state) l load → Allowed m t (x .state) ch
+      → Since m s (suc t) (trigger m t ch x .state) (extend t ch l) (load + brought ch)
   unfolding trigger extend brought
   since-trigger l load x rest C h S a =
       record {
@@ -96,8 +97,10 @@ module _ (m : Machine) (s t : ℕ) where
       }
   since-trigger l load x (fire k w) C h S (a, b) =
       record {
-        legal = legal-snoc m l (pair k t) (S .legal) (rw (a .leaves) (S .ends)) (each-map (λ p (u, v). v) l (S .within)) (a .known, a .ready);
-        within = each-snoc (Within s (suc t)) l (pair k t) (each-map (λ p (u, v). (u, omega arith)) l (S .within)) (h, omega arith);
+        legal = legal-snoc m l (pair k t) (S .legal) (rw (a .leaves) (S .ends)) (each-map (λ p (u, v). v) l (S .within))
+            (a .known, a .ready);
+        within = each-snoc (Within s (suc t)) l (pair k t) (each-map (λ p (u, v). (u, omega arith)) l (S .within))
+            (h, omega arith);
         ends = ends-snoc m l (pair k t);
         begins = C .onward k (a .known) (rw (a .leaves) (S .begins));
         enough = omega (arith, total-snoc m (asked m) l (pair k t));

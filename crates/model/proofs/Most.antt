@@ -1,7 +1,7 @@
 -- The largest of the first n figures: it is above each, at most whatever is above each, and 0 or one of them.
 -- Assumes nothing.
 use Prim.Native.Nat.{ℕ, zero, suc, _≤_, _<_, max}
-use mathlib.Core.Path.{_≡_, refl, sym, _∙_, ap₂}
+use mathlib.Core.Path.{_≡_, refl, sym, _∙_, ap, ap₂}
 use mathlib.Core.Logic.{_⊎_, inl, inr, ⊎-elim}
 use native.Mathlib.Omega.{arith}
 use native.Mathlib.Decide.{decLe}
@@ -45,3 +45,12 @@ most-max (suc n) v f g h =
     max-spread v (most n f) (f n)
     ∙ ap₂ max (most-max n v f g (λ i l. h i (omega arith))) (h n (omega arith))
     ∙ sym (max-spread v (most n g) (g n))
+
+max-swap : (a b c d : ℕ) → max (max a b) (max c d) ≡ max (max a c) (max b d)
+max-swap a b c d = omega arith
+
+pub most-both : (n : ℕ) (f g : ℕ → ℕ) → most n (λ i. max (f i) (g i)) ≡ max (most n f) (most n g)
+unfolding most
+most-both zero f g = refl
+most-both (suc n) f g =
+    ap (λ v. max v (max (f n) (g n))) (most-both n f g) ∙ max-swap (most n f) (most n g) (f n) (g n)

@@ -1,25 +1,44 @@
--- The laws of Instant, MayBegin and cost. No other law looks behind these names or behind their tests.
+-- The laws of the names that stand for a rule of the exchange: Instant, MayBegin, cost, divisor, hyperperiod.
+-- No other law looks behind these names or the tests of the first two; only P1 to P12 compute with them.
 -- Assumes nothing.
 use Prim.Native.Nat.{ℕ, _+_, _-_, _/_, _%_, _≤_, _<_, _∣_}
-use mathlib.Core.Path.{_≡_}
-use mathlib.Core.Bool.{true}
-use mathlib.Core.Logic.{_↔_, Iff·trans, Iff·symm}
+use mathlib.Core.Path.{_≡_, refl}
+use mathlib.Core.Bool.{true, false}
+use mathlib.Core.List.{List}
+use mathlib.Core.Logic.{_↔_, ⊎-elim, Iff·trans, Iff·symm}
 use native.Mathlib.Omega.{arith}
 use native.Mathlib.Nat.{div-add-mod', dvd-mul-left, mod-eq-zero-of-dvd, dvd-of-mod-eq-zero}
 use native.Mathlib.Nat.{dvd-add-iff-left, dvd-sub, dvd-trans, le-of-dvd}
+use lib.Dec.{eqb, ltb}
 use borrow.Author.Tests.{eq-eqb, eqb-true, lt-ltb, ltb-true}
-use mathlib.Core.List.{List}
 use Rattle.number.proofs.Divide.{gcdOf-is, lcmOf-is}
 use Rattle.model.specs.Machine.{Machine, count, actionOf, machineOf, periods, divisor, allPeriods, hyperperiod}
-use Rattle.model.specs.Legal.{Instant, MayBegin}
+use Rattle.model.specs.Legal.{Instant, MayBegin, cost}
 use Rattle.model.specs.Reckon.{instant?, begins?}
 use Rattle.model.specs.Inside.{Repeats, Closed, Separate}
+use Rattle.model.proofs.Tests.{true-or-false}
 use Rattle.model.proofs.Periods.{periods-each, all-periods-each}
+
+-- what the names come to, for the code that reckons with them
+pub instant?-is : (m : Machine) (k t : ℕ) → instant? m k t ≡ eqb (t % actionOf m k .period) 0
+unfolding instant?
+instant?-is m k t = refl
+
+pub begins?-is : (m : Machine) (q : ℕ) → begins? m q ≡ ltb q (m .states)
+unfolding begins?
+begins?-is m q = refl
+
+pub cost-is : (m : Machine) (k : ℕ) → cost m k ≡ actionOf m k .time
+unfolding cost
+cost-is m k = refl
 
 -- an instant is a multiple of the period
 pub instant-divides : (m : Machine) (k t : ℕ) → Instant m k t ↔ (actionOf m k .period ∣ t)
 unfolding Instant
-instant-divides m k t = (λ (n, e). rw e (dvd-mul-left T n), λ d. (t / T, omega (arith, div-add-mod' t T, mod-eq-zero-of-dvd T d)))
+instant-divides m k t = (
+  λ (n, e). rw e (dvd-mul-left T n),
+  λ d. (t / T, omega (arith, div-add-mod' t T, mod-eq-zero-of-dvd T d)),
+)
   where
     T : ℕ
     T = actionOf m k .period
@@ -28,9 +47,13 @@ instant-divides m k t = (λ (n, e). rw e (dvd-mul-left T n), λ d. (t / T, omega
 pub instant?-law : (m : Machine) (k t : ℕ) → (instant? m k t ≡ true) ↔ Instant m k t
 unfolding instant?
 instant?-law m k t = (
-  λ e. instant-divides m k t .1 (dvd-of-mod-eq-zero (actionOf m k .period) (eqb-true (t % actionOf m k .period) 0 e)),
-  λ i. eq-eqb (t % actionOf m k .period) 0 (mod-eq-zero-of-dvd (actionOf m k .period) (instant-divides m k t .0 i)),
+  λ e. instant-divides m k t .1 (dvd-of-mod-eq-zero (actionOf m k .period) (eqb-true _ 0 e)),
+  λ i. eq-eqb _ 0 (mod-eq-zero-of-dvd (actionOf m k .period) (instant-divides m k t .0 i)),
 )
+
+pub instant?-false : (m : Machine) (k t : ℕ) → (Instant m k t → ⊥) → instant? m k t ≡ false
+instant?-false m k t h =
+    ⊎-elim (λ e. absurd (h (instant?-law m k t .0 e))) (λ e. e) (true-or-false (instant? m k t))
 
 pub begins?-law : (m : Machine) (q : ℕ) → (begins? m q ≡ true) ↔ MayBegin m q
 unfolding begins? MayBegin
@@ -47,20 +70,19 @@ pub sinks-closed : (m : Machine) → ((k : ℕ) → k < count m → actionOf m k
 unfolding MayBegin
 sinks-closed m h = record { inside = λ q l. l; onward = λ k l a. h k l }
 
--- instants are a common divisor of the periods apart, and so are deadlines that do not exceed it
+-- instants are a common divisor of the periods apart, or a multiple of it, and no deadline exceeds the divisor
 pub divisor-separates : (m : Machine) (g : ℕ) → ((k : ℕ) → k < count m → g ∣ actionOf m k .period)
     → ((k : ℕ) → k < count m → (0 < actionOf m k .deadline) × (actionOf m k .deadline ≤ g)) → Separate m
 divisor-separates m g d h =
     record {
       positive = λ k l. h k l .0;
       gap = λ k j u v a b x y l.
-          omega (
-            arith,
-            h k a .1,
-            le-of-dvd {m = g} {n = v - u} (omega arith)
-                (dvd-sub g (dvd-trans g (d j b) (instant-divides m j v .0 y)) (dvd-trans g (d k a) (instant-divides m k u .0 x))),
-          );
+          let apart : g ≤ v - u = le-of-dvd (omega arith) (dvd-sub g (multiple j v b y) (multiple k u a x)) in
+          omega (arith, h k a .1);
     }
+  where
+    multiple : (k t : ℕ) → k < count m → Instant m k t → g ∣ t
+    multiple k t l i = dvd-trans g (d k l) (instant-divides m k t .0 i)
 
 -- the divisor of Machine.antt divides each period
 pub divisor-divides : (m : Machine) (k : ℕ) → k < count m → divisor m ∣ actionOf m k .period

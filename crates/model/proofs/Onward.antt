@@ -5,6 +5,7 @@ use mathlib.Core.Path.{_≡_, refl}
 use mathlib.Core.Bool.{Bool, true}
 use mathlib.Core.List.{List, [], _∷_}
 use native.Mathlib.Omega.{arith}
+use lib.Dec.{eqb}
 use lib.ListN.{length}
 use borrow.Author.Tests.{eq-eqb, eqb-true}
 use Rattle.model.specs.Machine.{Machine, count, actionOf}
@@ -35,6 +36,19 @@ module _ (m : Machine) (ok : Pair → Type 0) where
   onward-length f ends from t [] l h = omega arith
   onward-length f ends from t (p ∷ σ) l (i, o, a, k, r) =
       omega (arith, onward-length f ends (after m (p .action)) (suc (p .instant)) σ (ends p k) r)
+
+  -- what leaves a state of a set leaves the set, and what leaves a set leaves the source of its first pair
+  pub onward-wider : (from : ℕ → Bool) (q t : ℕ) (σ : List Pair) → from q ≡ true → Onward m ok (eqb q) t σ
+      → Onward m ok from t σ
+  onward-wider from q t [] h r = tt
+  onward-wider from q t (p ∷ σ) h (i, o, a, k, r) =
+      let (x, y) = both-true _ _ o in (i, rw (← (eqb-true q _ x), h, y) refl, a, k, r)
+
+  pub onward-source : (from : ℕ → Bool) (t : ℕ) (p : Pair) (σ : List Pair) → Onward m ok from t (p ∷ σ)
+      → Onward m ok (eqb (actionOf m (p .action) .source)) t (p ∷ σ)
+  onward-source from t p σ (i, o, a, k, r) =
+      let q = actionOf m (p .action) .source in
+      let (x, y) = both-true (from q) _ o in (i, rw (eq-eqb q q refl, y) refl, a, k, r)
 
   chain-onward : (from : ℕ → Bool) (t : ℕ) (p : Pair) (σ : List Pair) → from (actionOf m (p .action) .source) ≡ true
       → t ≤ p .instant → Chain m p σ → Each ok (p ∷ σ) → Onward m ok from t (p ∷ σ)

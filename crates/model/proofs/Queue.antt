@@ -6,7 +6,8 @@ use mathlib.Core.List.{List, [], _∷_, _++_}
 use native.Mathlib.Omega.{arith}
 use Rattle.model.specs.Machine.{Machine, machineOf}
 use Rattle.model.specs.Verdict.{added}
-use Rattle.model.specs.Run.{Job, job, Seat, Choice, rest, fire, join, trigger, serve, work, workOf, turn, triggered, served, tick, EachJob}
+use Rattle.model.specs.Run.{Job, job, Seat, Choice, rest, fire, join, trigger, serve, work, workOf, turn}
+use Rattle.model.specs.Run.{triggered, served, tick, EachJob}
 use Rattle.model.proofs.Added.{added-cong, added-sum}
 use Rattle.model.proofs.History.{brought}
 
@@ -36,7 +37,8 @@ work-join q k r zero = omega arith
 work-join [] k r (suc w) = omega arith
 work-join (job j u v ∷ q) k r (suc w) = omega (arith, work-join q k r (suc w))
 
-work-trigger : (m : Machine) (t : ℕ) (ch : Choice) (x : Seat) → work (trigger m t ch x .queue) ≡ work (x .queue) + brought ch
+work-trigger : (m : Machine) (t : ℕ) (ch : Choice) (x : Seat)
+    → work (trigger m t ch x .queue) ≡ work (x .queue) + brought ch
 unfolding trigger brought
 work-trigger m t rest x = omega arith
 work-trigger m t (fire k w) x = work-join (x .queue) k t w

@@ -11,12 +11,14 @@ use native.Mathlib.Decide.{decLe}
 use lib.Dec.{leb}
 use borrow.Author.Tests.{le-leb, leb-true}
 use Rattle.model.specs.Machine.{Machine, machineOf}
-use Rattle.model.specs.Reckon.{best, request, demand}
-use Rattle.model.specs.Verdict.{smallest, requests, closes, closingLength, lastTested}
+use Rattle.model.specs.Reckon.{request, demand}
+use Rattle.model.specs.Search.{smallest}
+use Rattle.model.specs.Verdict.{requests, closes, closingLength, lastTested}
 use Rattle.model.specs.Verdict.{passes, failingLength, Judgement, given, gives}
 use Rattle.model.specs.Scan.{scan, slack}
 use Rattle.model.proofs.Tests.{true-or-false, test-same}
-use Rattle.model.proofs.Added.{added-zero}
+use Rattle.model.proofs.Bounds.{request-empty}
+use Rattle.model.proofs.Added.{added-cong, added-zero}
 use Rattle.model.proofs.Search.{none-or-some, smallest-some, smallest-found, smallest-next, smallest-past}
 use Rattle.model.proofs.Verdict.{Passes, passes-some}
 
@@ -54,7 +56,8 @@ module _ (ms : List Machine) (i s : ℕ) where
         let l : n ≤ last = closing-after n (omega arith) in
         rw (smallest-next n 2048 (closes ms i s) (omega arith) z) (elim (true-or-false (passes ms i s n)) [
           | inl p ↦
-              rw (smallest-next n last fails l (rw p refl), z, p, scan) (scan-given (suc n) left (omega arith) (omega arith))
+              rw (smallest-next n last fails l (rw p refl), z, p, scan)
+              (scan-given (suc n) left (omega arith) (omega arith))
           | inr p ↦ rw (smallest-found n last fails l (rw p refl), z, p, scan)
         ])
   ]
@@ -65,8 +68,8 @@ module _ (ms : List Machine) (i s : ℕ) where
   scan-gives = scan-given 1 2048 (omega arith) (omega arith)
 
   requests-empty : requests ms i s 0 ≡ 0
-  unfolding request best
-  requests-empty = added-zero i
+  requests-empty =
+      added-cong i (λ j. request (machineOf ms j) s 0) (λ j. 0) (λ j l. request-empty (machineOf ms j) s) ∙ added-zero i
 
   slack-above : (n m : ℕ) → m ≤ n → m ≤ requests ms i s m + slack ms i s n
   unfolding slack

@@ -8,7 +8,7 @@ use mathlib.Core.Logic.{_⊎_, inl, inr, ⊎-elim}
 use native.Mathlib.Omega.{arith}
 use native.Mathlib.Nat.{eq-or-lt-of-le}
 use native.Mathlib.Decide.{decLe}
-use Rattle.model.specs.Verdict.{firstOf, smallest}
+use Rattle.model.specs.Search.{firstOf, smallest}
 use Rattle.model.proofs.Tests.{true-or-false}
 
 pub none-or-some : {A : Type 0} (o : Option A) → (o ≡ none) ⊎ ((a : A) × (o ≡ some a))

@@ -1,4 +1,4 @@
--- A window moved by a time after which the machine's instants come again, as by whole hyperperiods, has the same bounds.
+-- A window moved by a time after which the machine's instants come again, as by a hyperperiod, has the same bounds.
 -- Assumes nothing.
 use Prim.Native.Nat.{ℕ, zero, suc, _+_, _-_, _*_, _/_, _%_, _≤_, _<_, max}
 use mathlib.Core.Path.{_≡_, refl, sym, _∙_, ap, ap₂, subst}
@@ -45,8 +45,9 @@ module _ (m : Machine) (h : ℕ) (again : Repeats m h) where
   unfolding demand
   demand-shift s n =
       best-shift (askedBy m (s + n)) (askedBy m (s + h + n))
-      (λ k t. let d = actionOf m k .deadline in rw (leb-same (t + h + d) (s + h + n) (t + d) (s + n) (omega arith))) s (suc n)
-      (begins? m)
+      (λ k t.
+      let d = actionOf m k .deadline in rw (leb-same (t + h + d) (s + h + n) (t + d) (s + n) (omega arith)))
+      s (suc n) (begins? m)
 
   -- the same of the bounds themselves: no sequence is moved, for there is one bound of each window
   pub request-bound-shift : (s f v : ℕ) → s ≤ f → IsRequestBound m (s + h) (f + h) v ↔ IsRequestBound m s f v

@@ -12,7 +12,8 @@ use lib.ListN.{length}
 use borrow.Author.Tests.{le-leb, leb-true, not-false}
 use Rattle.model.specs.Machine.{Machine, machineOf, hyperperiod}
 use Rattle.model.specs.Reckon.{request, demand}
-use Rattle.model.specs.Verdict.{firstOf, smallest, requests, closes, closingLength, passes, failingLength}
+use Rattle.model.specs.Search.{firstOf, smallest}
+use Rattle.model.specs.Verdict.{requests, closes, closingLength, passes, failingLength}
 use Rattle.model.specs.Verdict.{Judgement, Fits, given, gives, verdict}
 use Rattle.model.proofs.Search.{none-or-some, some-none, firstOf-none, firstOf-some, firstOf-absent}
 use Rattle.model.proofs.Search.{smallest-none, smallest-some, smallest-absent, smallest-below}

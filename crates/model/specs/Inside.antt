@@ -1,15 +1,16 @@
 -- What only inner functions and the laws between them speak of: nothing here is needed to read a public contract.
--- First what the laws ask of a machine, then the bounds from the front, a row of figures that a loop moves on.
+-- In order: what the laws ask of a machine; rows of figures from the front, and the demand of each length from them;
+-- rows from the back, for the critical sequence; the plain reckoner.
 use Prim.Native.Nat.{ℕ, zero, suc, _+_, _≤_, _<_, max}
 use mathlib.Core.Path.{_≡_}
 use mathlib.Core.Bool.{Bool, cond, _&&_}
 use mathlib.Core.List.{List}
 use mathlib.Core.Logic.{_⊎_, _↔_}
-use lib.Dec.{leb}
+use lib.Dec.{eqb, leb}
 use lib.ListN.{getD}
 use Rattle.model.specs.Machine.{Machine, count, actionOf}
 use Rattle.model.specs.Legal.{Instant, MayBegin, Pair, asked}
-use Rattle.model.specs.Reckon.{begins?, most, pair, open?, after}
+use Rattle.model.specs.Reckon.{instant?, begins?, most, pair, open?, after, best}
 
 -- the machine's instants come again after h ticks
 abbrev pub Repeats : Machine → ℕ → Type 0
@@ -66,3 +67,25 @@ abbrev pub dueThen : Machine → ℕ → ℕ → (ℕ → ℕ) → ℕ → ℕ
 dueThen m t end row k =
     let due = open? m (begins? m) (pair k t) && leb (t + actionOf m k .deadline) end in
     cond due (row (actionOf m k .source) + asked m (pair k t)) 0
+
+-- `row` has each state's largest total from it on, with instants in [t, t + n)
+pub record IsBack (m : Machine) (w : Pair → ℕ) (t n : ℕ) (row : List ℕ) : Type 0 where
+  pub at : (q : ℕ) → q < m .states → figure row q ≡ best m w t n (eqb q)
+
+-- what action k brings at t to q, which it leaves, where the figures from the next tick on are `row`
+abbrev pub begun : Machine → (Pair → ℕ) → ℕ → (ℕ → ℕ) → ℕ → ℕ → ℕ
+begun m w t row q k = cond (open? m (eqb q) (pair k t)) (w (pair k t) + row (actionOf m k .sink)) 0
+
+-- `new` is the row `old`, which starts after the tick t, with that tick
+pub record IsEarlier (m : Machine) (w : Pair → ℕ) (t : ℕ) (old new : List ℕ) : Type 0 where
+  pub at : (q : ℕ) → q < m .states → figure new q ≡ max (figure old q) (most (count m) (begun m w t (figure old) q))
+
+-- the plain reckoner: what action k brings at its first instant in [t, t + n), and 0 where it has none there
+unfoldable pub atFirst : Machine → (Pair → ℕ) → ℕ → ℕ → ℕ → ℕ
+atFirst m w t zero k = 0
+atFirst m w t (suc n) k =
+    let now = w (pair k t) + best m w (suc t) n (after m k) in cond (instant? m k t) now (atFirst m w (suc t) n k)
+
+-- what action k asks from a state of `from`
+abbrev pub asks : Machine → (Pair → ℕ) → ℕ → ℕ → (ℕ → Bool) → ℕ → ℕ
+asks m w t n from k = cond (from (actionOf m k .source)) (atFirst m w t n k) 0

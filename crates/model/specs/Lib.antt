@@ -2,7 +2,9 @@ pub mod Machine
 pub mod Sizes
 pub mod Legal
 pub mod Reckon
+pub mod Search
 pub mod Verdict
 pub mod Run
 pub mod Inside
 pub mod Scan
+pub mod Numbers

@@ -1,4 +1,4 @@
--- Document 01, "Verdict", its last paragraph: runs of a sheet's machines, tick by tick, and what it is to finish in time.
+-- Document 01, "Verdict", its last paragraph: runs of a sheet's machines, tick by tick, and finishing in time.
 use Prim.Native.Nat.{ℕ, zero, suc, _+_, _≤_, _<_}
 use mathlib.Core.Path.{_≡_}
 use mathlib.Core.Bool.{Bool, cond, _&&_}
@@ -23,6 +23,10 @@ pub data Choice : Type 0 where
   rest : Choice
   fire : (k w : ℕ) → Choice
 
+-- a run: for each tick what each machine does, by its number
+abbrev pub Run : Type 0
+Run = List (ℕ → Choice)
+
 -- action k is a legal next action at tick t in state q
 pub record MayFire (m : Machine) (q k t : ℕ) : Type 0 where
   pub known : k < count m
@@ -39,6 +43,7 @@ unfoldable pub join : List Job → ℕ → ℕ → ℕ → List Job
 join queue k t zero = queue
 join queue k t (suc w) = queue ++ (job k t (suc w) ∷ [])
 
+-- the machine's state moves to the action's sink when it is triggered
 unfoldable pub trigger : Machine → ℕ → Choice → Seat → Seat
 trigger m t rest x = x
 trigger m t (fire k w) x = record { state = actionOf m k .sink; queue = join (x .queue) k t w }
@@ -77,18 +82,20 @@ tick ms t choice seats = served (triggered ms t choice seats)
 unfoldable pub fresh : List Machine → ℕ → Seat
 fresh ms j = record { state = machineOf ms j .initial; queue = [] }
 
--- a run is a list of choices, one of each machine for each tick; what it comes to from tick t on
-unfoldable pub play : List Machine → ℕ → (ℕ → Seat) → List (ℕ → Choice) → ℕ → Seat
+-- what a run comes to, from tick t on
+unfoldable pub play : List Machine → ℕ → (ℕ → Seat) → Run → ℕ → Seat
 play ms t seats [] = seats
 play ms t seats (choice ∷ run) = play ms (suc t) (tick ms t choice seats) run
 
 -- every choice of the run is legal, from tick t on
-abbrev pub LegalFrom : List Machine → ℕ → (ℕ → Seat) → List (ℕ → Choice) → Type 0
+abbrev pub LegalFrom : List Machine → ℕ → (ℕ → Seat) → Run → Type 0
 LegalFrom ms t seats [] = Unit
 LegalFrom ms t seats (choice ∷ run) =
-    ((j : ℕ) → Allowed (machineOf ms j) t (seats j .state) (choice j)) × LegalFrom ms (suc t) (tick ms t choice seats) run
+    ((j : ℕ) → Allowed (machineOf ms j) t (seats j .state) (choice j))
+    × LegalFrom ms (suc t) (tick ms t choice seats) run
 
-abbrev pub LegalRun : List Machine → List (ℕ → Choice) → Type 0
+-- from tick 0 on, and from the initial states
+abbrev pub LegalRun : List Machine → Run → Type 0
 LegalRun ms run = LegalFrom ms 0 (fresh ms) run
 
 -- the units that a machine's turn does of action k of instant r, by the work left above: one, if it is the oldest
@@ -99,7 +106,7 @@ unitOf k r zero (job j u zero ∷ queue) = unitOf k r zero queue
 unitOf k r zero (job j u (suc w) ∷ queue) = cond (eqb j k && eqb u r) 1 0
 
 -- the units that a run does of action k of instant r of machine i, from tick t on
-unfoldable pub done : List Machine → ℕ → ℕ → ℕ → ℕ → (ℕ → Seat) → List (ℕ → Choice) → ℕ
+unfoldable pub done : List Machine → ℕ → ℕ → ℕ → ℕ → (ℕ → Seat) → Run → ℕ
 done ms i k r t seats [] = 0
 done ms i k r t seats (choice ∷ run) =
     unitOf k r (added i (workOf (triggered ms t choice seats))) (triggered ms t choice seats i .queue)
@@ -107,7 +114,7 @@ done ms i k r t seats (choice ∷ run) =
 
 -- finished by its deadline: where machine i fires action k at tick r, which brings the work w,
 -- all that work is done in the ticks before r plus the deadline, if the run has come so far
-abbrev pub Finished : List Machine → List (ℕ → Choice) → Type 0
+abbrev pub Finished : List Machine → Run → Type 0
 Finished ms run =
     (i k r w : ℕ) → i < length ms → getD run r (λ j. rest) i ≡ fire k w
     → r + actionOf (machineOf ms i) k .deadline ≤ length run
@@ -123,11 +130,11 @@ abbrev pub InTime : Machine → ℕ → Job → Type 0
 InTime m t (job k r w) = 1 ≤ w → t < r + actionOf m k .deadline
 
 -- nothing late is queued when the run has come to its end
-abbrev pub OnTime : List Machine → List (ℕ → Choice) → Type 0
+abbrev pub OnTime : List Machine → Run → Type 0
 OnTime ms run =
     (i : ℕ) → i < length ms → EachJob (InTime (machineOf ms i) (length run)) (play ms 0 (fresh ms) run i .queue)
 
 -- no legal run is late, in either form
 pub record Safe (ms : List Machine) : Type 0 where
-  pub finished : (run : List (ℕ → Choice)) → LegalRun ms run → Finished ms run
-  pub onTime : (run : List (ℕ → Choice)) → LegalRun ms run → OnTime ms run
+  pub finished : (run : Run) → LegalRun ms run → Finished ms run
+  pub onTime : (run : Run) → LegalRun ms run → OnTime ms run

@@ -1,21 +1,13 @@
 -- Document 01, "Verdict": the closing length, the lengths that pass, and the judgement of a sheet's machines.
-use Prim.Native.Nat.{ℕ, zero, suc, pred, _+_, _-_}
-use mathlib.Core.Bool.{Bool, true, false, cond, not}
+use Prim.Native.Nat.{ℕ, zero, suc, pred, _+_}
+use mathlib.Core.Bool.{Bool, not}
 use mathlib.Core.Option.{Option, none, some, Option·getD}
 use mathlib.Core.List.{List}
 use lib.Dec.{leb}
 use lib.ListN.{length}
 use Rattle.model.specs.Machine.{Machine, machineOf, hyperperiod}
 use Rattle.model.specs.Reckon.{request, demand}
-
--- the first answer that there is for low, low + 1 and so on, n numbers in all
-unfoldable pub firstOf : {A : Type 0} → (ℕ → Option A) → ℕ → ℕ → Option A
-firstOf answer low zero = none
-firstOf answer low (suc n) = elim (answer low) [ none ↦ firstOf answer (suc low) n | some a ↦ some a ]
-
--- the smallest number from low to high that passes the test
-abbrev pub smallest : ℕ → ℕ → (ℕ → Bool) → Option ℕ
-smallest low high test = firstOf (λ n. cond (test n) (some n) none) low (suc high - low)
+use Rattle.model.specs.Search.{firstOf, smallest, isFound}
 
 -- f 0 to f (i - 1), added
 unfoldable pub added : ℕ → (ℕ → ℕ) → ℕ
@@ -38,11 +30,6 @@ closingLength ms i s = smallest 1 2048 (closes ms i s)
 abbrev pub lastTested : Option ℕ → ℕ
 lastTested none = 2048
 lastTested (some closing) = pred closing
-
--- a search has found something
-abbrev pub isFound : Option ℕ → Bool
-isFound none = false
-isFound (some m) = true
 
 -- some m from 0 to n has: the demand bound of machine i over [s, s + n], plus the request bounds over [s, s + m)
 -- of machines 0 to i - 1, is at most m
