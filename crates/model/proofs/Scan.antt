@@ -14,7 +14,7 @@ use Rattle.model.specs.Machine.{Machine, machineOf}
 use Rattle.model.specs.Reckon.{request, demand}
 use Rattle.model.specs.Search.{smallest}
 use Rattle.model.specs.Verdict.{requests, closes, closingLength, lastTested}
-use Rattle.model.specs.Verdict.{passes, failingLength, Judgement, given, gives}
+use Rattle.model.specs.Verdict.{passes, failingLength, Judgement, Late, Open, given, gives}
 use Rattle.model.specs.Scan.{scan, slack}
 use Rattle.model.proofs.Tests.{true-or-false, test-same}
 use Rattle.model.proofs.Bounds.{request-empty}
@@ -23,6 +23,25 @@ use Rattle.model.proofs.Search.{none-or-some, smallest-some, smallest-f
 use Rattle.model.proofs.Verdict.{Passes, passes-some}
 
 module _ (ms : List Machine) (i s : ℕ) where
+  -- one length of the walk: it closes, or it fails, or the walk goes on
+  pub scan-closed : (n left : ℕ) → closes ms i s n ≡ true → scan ms i s n (suc left) ≡ none
+  unfolding scan
+  scan-closed n left c = rw (c, scan)
+
+  pub scan-late : (n left : ℕ) → closes ms i s n ≡ false → passes ms i s n ≡ false
+      → scan ms i s n (suc left) ≡ some (Late i s n (demand (machineOf ms i) s n))
+  unfolding scan
+  scan-late n left c p = rw (c, p, scan)
+
+  pub scan-next : (n left : ℕ) → closes ms i s n ≡ false → passes ms i s n ≡ true
+      → scan ms i s n (suc left) ≡ scan ms i s (suc n) left
+  unfolding scan
+  scan-next n left c p = rw (c, p, scan)
+
+  pub scan-open : (n : ℕ) → scan ms i s n 0 ≡ some (Open i s)
+  unfolding scan
+  scan-open n = refl
+
   fails : ℕ → Bool
   fails n = not (passes ms i s n)
 
@@ -44,21 +63,22 @@ module _ (ms : List Machine) (i s : ℕ) where
   ]
 
   scan-given : (n left : ℕ) → 1 ≤ n → n + left ≡ 2049 → scan ms i s n left ≡ givenFrom n
-  unfolding scan givenFrom closingFrom fails
+  unfolding givenFrom closingFrom fails
   scan-given n zero a e =
-      rw (smallest-past n 2048 (closes ms i s) (omega arith)) (rw (smallest-past n 2048 fails (omega arith)))
+      rw (scan-open n, smallest-past n 2048 (closes ms i s) (omega arith))
+      (rw (smallest-past n 2048 fails (omega arith)))
   scan-given n (suc left) a e = elim (true-or-false (closes ms i s n)) [
-    | inl z ↦
-        rw (z, scan, smallest-found n 2048 (closes ms i s) (omega arith) z)
+    | inl c ↦
+        rw (scan-closed n left c, smallest-found n 2048 (closes ms i s) (omega arith) c)
         (rw (smallest-past n (pred n) fails (omega arith)))
-    | inr z ↦
+    | inr c ↦
         let last : ℕ = lastTested (closingFrom (suc n)) in
         let l : n ≤ last = closing-after n (omega arith) in
-        rw (smallest-next n 2048 (closes ms i s) (omega arith) z) (elim (true-or-false (passes ms i s n)) [
+        rw (smallest-next n 2048 (closes ms i s) (omega arith) c) (elim (true-or-false (passes ms i s n)) [
           | inl p ↦
-              rw (smallest-next n last fails l (rw p refl), z, p, scan)
+              rw (scan-next n left c p, smallest-next n last fails l (rw p refl))
               (scan-given (suc n) left (omega arith) (omega arith))
-          | inr p ↦ rw (smallest-found n last fails l (rw p refl), z, p, scan)
+          | inr p ↦ rw (scan-late n left c p, smallest-found n last fails l (rw p refl))
         ])
   ]
 

@@ -19,7 +19,7 @@ pub some-none : {A : Type 0} {a : A} → some a ≡ none → ⊥
 some-none e = let z : _≡_ {A = ℕ} 0 1 = cc in omega arith
 
 module _ {A : Type 0} (answer : ℕ → Option A) where
-  -- no number that is searched has an answer
+  -- no number from low on and below high has an answer
   abbrev pub NoneBelow : ℕ → ℕ → Type 0
   NoneBelow low high = (k : ℕ) → low ≤ k → k < high → answer k ≡ none
 
@@ -34,31 +34,32 @@ module _ {A : Type 0} (answer : ℕ → Option A) where
   none-below-next : (low high : ℕ) → answer low ≡ none → NoneBelow (suc low) high → NoneBelow low high
   none-below-next low high e h k a b = ⊎-elim (λ q. rw q at e) (λ l. h k l b) (eq-or-lt-of-le a)
 
-  pub firstOf-none : (low n high : ℕ) → low + n ≡ high → firstOf answer low n ≡ none → NoneBelow low high
-  firstOf-none low zero high q e = λ k a b. absurd (omega arith)
-  firstOf-none low (suc n) high q e =
-      ⊎-elim
-      (λ z. none-below-next low high z (firstOf-none (suc low) n high (omega arith) (sym (firstOf-next low n z) ∙ e)))
-      (λ (a, z). absurd (some-none (sym (firstOf-found low n z) ∙ e)))
-      (none-or-some (answer low))
+  pub firstOf-none : (low n : ℕ) → firstOf answer low n ≡ none → NoneBelow low (low + n)
+  firstOf-none low zero e = λ k a b. absurd (omega arith)
+  firstOf-none low (suc n) e = elim (none-or-some (answer low)) [
+    | inl z ↦ none-below-next low (low + suc n) z (λ k a b.
+        firstOf-none (suc low) n (sym (firstOf-next low n z) ∙ e) k a (omega arith))
+    | inr x ↦ absurd (some-none (sym (firstOf-found low n (x .1)) ∙ e))
+  ]
 
-  pub firstOf-some : (low n high : ℕ) (a : A) → low + n ≡ high → firstOf answer low n ≡ some a
-      → (k : ℕ) × (low ≤ k) × (k < high) × (answer k ≡ some a) × NoneBelow low k
+  pub firstOf-some : (low n : ℕ) (a : A) → firstOf answer low n ≡ some a
+      → (k : ℕ) × (low ≤ k) × (k < low + n) × (answer k ≡ some a) × NoneBelow low k
   unfolding firstOf
-  firstOf-some low zero high a q e = absurd (some-none (sym e))
-  firstOf-some low (suc n) high a q e =
-      ⊎-elim
-      (λ z.
-      let (k, l, h, f, b) = firstOf-some (suc low) n high a (omega arith) (sym (firstOf-next low n z) ∙ e) in
-      (k, omega arith, h, f, none-below-next low k z b))
-      (λ (b, z). (low, omega arith, omega arith, z ∙ sym (firstOf-found low n z) ∙ e, λ k c d. absurd (omega arith)))
-      (none-or-some (answer low))
+  firstOf-some low zero a e = absurd (some-none (sym e))
+  firstOf-some low (suc n) a e = elim (none-or-some (answer low)) [
+    | inl z ↦
+        let (k, l, h, f, b) = firstOf-some (suc low) n a (sym (firstOf-next low n z) ∙ e) in
+        (k, omega arith, omega arith, f, none-below-next low k z b)
+    | inr x ↦
+        let f : answer low ≡ some a = x .1 ∙ sym (firstOf-found low n (x .1)) ∙ e in
+        (low, omega arith, omega arith, f, λ k c d. absurd (omega arith))
+  ]
 
-  pub firstOf-absent : (low n high : ℕ) → low + n ≡ high → NoneBelow low high → firstOf answer low n ≡ none
-  firstOf-absent low n high q h =
-      ⊎-elim (λ z. z)
-      (λ (a, z). let (k, l, u, f, b) = firstOf-some low n high a q z in absurd (some-none (sym f ∙ h k l u)))
-      (none-or-some (firstOf answer low n))
+  pub firstOf-absent : (low n : ℕ) → NoneBelow low (low + n) → firstOf answer low n ≡ none
+  firstOf-absent low n h = elim (none-or-some (firstOf answer low n)) [
+    | inl z ↦ z
+    | inr x ↦ let (k, l, u, f, b) = firstOf-some low n (x .0) (x .1) in absurd (some-none (sym f ∙ h k l u))
+  ]
 
 -- c is the smallest number from low to high that passes the test
 pub record Smallest (low high : ℕ) (test : ℕ → Bool) (c : ℕ) : Type 0 where
@@ -67,7 +68,7 @@ pub record Smallest (low high : ℕ) (test : ℕ → Bool) (c : ℕ) : Type 0 wh
   pub passes : test c ≡ true
   pub earlier : (k : ℕ) → low ≤ k → k < c → test k ≡ false
 
-module _ (low high : ℕ) (test : ℕ → Bool) where
+module _ (test : ℕ → Bool) where
   abbrev picked : ℕ → Option ℕ
   picked k = cond (test k) (some k) none
 
@@ -81,25 +82,25 @@ module _ (low high : ℕ) (test : ℕ → Bool) where
       (λ z. absurd (some-none (sym (rw z at e))))
       (true-or-false (test k))
 
+module _ (low high : ℕ) (test : ℕ → Bool) where
   pub smallest-none : smallest low high test ≡ none → (k : ℕ) → low ≤ k → k ≤ high → test k ≡ false
   smallest-none e k a b =
-      picked-none k (firstOf-none picked low (suc high - low) (low + (suc high - low)) refl e k a (omega arith))
+      picked-none test k (firstOf-none (picked test) low (suc high - low) e k a (omega arith))
 
   pub smallest-some : (c : ℕ) → smallest low high test ≡ some c → Smallest low high test c
   smallest-some c e =
-      let (k, l, h, f, b) = firstOf-some picked low (suc high - low) (low + (suc high - low)) c refl e in
-      let (t, q) = picked-some k c f in
+      let (k, l, h, f, b) = firstOf-some (picked test) low (suc high - low) c e in
+      let (t, q) = picked-some test k c f in
       record {
         least = omega arith;
         most = omega arith;
         passes = rw q at t;
-        earlier = λ j u v. picked-none j (b j u (omega arith));
+        earlier = λ j u v. picked-none test j (b j u (omega arith));
       }
 
   pub smallest-absent : ((k : ℕ) → low ≤ k → k ≤ high → test k ≡ false) → smallest low high test ≡ none
   smallest-absent h =
-      firstOf-absent picked low (suc high - low) (low + (suc high - low)) refl
-      (λ k a b. rw (h k a (omega arith)) refl)
+      firstOf-absent (picked test) low (suc high - low) (λ k a b. rw (h k a (omega arith)) refl)
 
   -- where one number passes, one at most that is found
   pub smallest-below : (k : ℕ) → low ≤ k → k ≤ high → test k ≡ true
@@ -119,11 +120,11 @@ module _ (low high : ℕ) (test : ℕ → Bool) where
   -- one number of the range at a time
   pub smallest-found : low ≤ high → test low ≡ true → smallest low high test ≡ some low
   smallest-found l e =
-      ap (firstOf picked low) (omega arith) ∙ firstOf-found picked low (high - low) (rw e refl)
+      ap (firstOf (picked test) low) (omega arith) ∙ firstOf-found (picked test) low (high - low) (rw e refl)
 
   pub smallest-next : low ≤ high → test low ≡ false → smallest low high test ≡ smallest (suc low) high test
   smallest-next l e =
-      ap (firstOf picked low) (omega arith) ∙ firstOf-next picked low (suc high - suc low) (rw e refl)
+      ap (firstOf (picked test) low) (omega arith) ∙ firstOf-next (picked test) low (suc high - suc low) (rw e refl)
 
   pub smallest-past : high < low → smallest low high test ≡ none
   smallest-past l = smallest-absent (λ k a b. absurd (omega arith))

@@ -13,8 +13,8 @@ use borrow.Author.Tests.{le-leb, leb-true, not-false}
 use Rattle.model.specs.Machine.{Machine, machineOf, hyperperiod}
 use Rattle.model.specs.Reckon.{request, demand}
 use Rattle.model.specs.Search.{firstOf, smallest}
-use Rattle.model.specs.Verdict.{requests, closes, closingLength, passes, failingLength}
-use Rattle.model.specs.Verdict.{Judgement, Fits, given, gives, verdict}
+use Rattle.model.specs.Verdict.{requests, closes, closingLength, hasRoom, passes, failingLength}
+use Rattle.model.specs.Verdict.{Judgement, Fits, given, gives, machineGives, verdict}
 use Rattle.model.proofs.Search.{none-or-some, some-none, firstOf-none, firstOf-some, firstOf-absent}
 use Rattle.model.proofs.Search.{smallest-none, smallest-some, smallest-absent, smallest-below}
 
@@ -25,27 +25,26 @@ module _ (ms : List Machine) (i s : ℕ) where
 
   pub closes-at-most : (n : ℕ) → (closes ms i s n ≡ true) ↔ (requests ms (suc i) s n ≤ n)
   unfolding closes
-  closes-at-most n = (leb-true (requests ms (suc i) s n) n, le-leb (requests ms (suc i) s n) n)
+  closes-at-most n = omega (arith, leb-true, le-leb)
+
+  room-at-most : (n m : ℕ) → (hasRoom ms i s n m ≡ true) ↔ (demand (machineOf ms i) s n + requests ms i s m ≤ m)
+  unfolding hasRoom
+  room-at-most n m = omega (arith, leb-true, le-leb)
 
   pub passes-some : (n : ℕ) → (passes ms i s n ≡ true) ↔ Passes n
   unfolding passes
   passes-some n = (found, finds)
     where
-      room : ℕ → Bool
-      room m = leb (demand (machineOf ms i) s n + requests ms i s m) m
-
       found : passes ms i s n ≡ true → Passes n
-      found e = elim (none-or-some (smallest 0 n room)) [
+      found e = elim (none-or-some (smallest 0 n (hasRoom ms i s n))) [
         | inl z ↦ absurd (false≢true (rw z at e))
         | inr x ↦
-            let c = smallest-some 0 n room (x .0) (x .1) in
-            (x .0, c .most, leb-true (demand (machineOf ms i) s n + requests ms i s (x .0)) (x .0) (c .passes))
+            let c = smallest-some 0 n (hasRoom ms i s n) (x .0) (x .1) in
+            (x .0, c .most, room-at-most n (x .0) .0 (c .passes))
       ]
 
       finds : Passes n → passes ms i s n ≡ true
-      finds (m, l, h) =
-          let e : room m ≡ true = le-leb (demand (machineOf ms i) s n + requests ms i s m) m h in
-          rw (smallest-below 0 n room m (omega arith) l e .1)
+      finds (m, l, h) = rw (smallest-below 0 n (hasRoom ms i s n) m (omega arith) l (room-at-most n m .1 h) .1)
 
   -- a closing length such that every shorter length passes
   pub record Fitting : Type 0 where
@@ -97,35 +96,26 @@ given-never-fits ms i s none none e = let z : _≡_ {A = ℕ} 0 1 = cc in omega 
 given-never-fits ms i s none (some c) e = some-none (sym e)
 
 module _ (ms : List Machine) where
-  abbrev H : ℕ
-  H = hyperperiod ms
-
-  -- what the starts 0 to H - 1 of machine i give, and what all machines give
-  abbrev machineGives : ℕ → Option Judgement
-  machineGives i = firstOf (gives ms i) 0 H
-
-  abbrev sheetGives : Option Judgement
-  sheetGives = firstOf machineGives 0 (length ms)
-
-  fits-none : verdict ms ≡ Fits → sheetGives ≡ none
-  unfolding verdict gives
-  fits-none e = elim (none-or-some sheetGives) [
+  fits-none : verdict ms ≡ Fits → firstOf (machineGives ms) 0 (length ms) ≡ none
+  unfolding verdict machineGives gives
+  fits-none e = elim (none-or-some (firstOf (machineGives ms) 0 (length ms))) [
     | inl z ↦ z
     | inr x ↦
-        let (i, a, b, z, h) = firstOf-some machineGives 0 (length ms) (length ms) (x .0) (omega arith) (x .1) in
-        let (s, c, d, y, g) = firstOf-some (gives ms i) 0 H H (x .0) (omega arith) z in
+        let (i, a, b, z, h) = firstOf-some (machineGives ms) 0 _ (x .0) (x .1) in
+        let (s, c, d, y, g) = firstOf-some (gives ms i) 0 _ (x .0) z in
         let f : x .0 ≡ Fits = rw (x .1) at e in
         absurd (given-never-fits ms i s (failingLength ms i s) (closingLength ms i s) (y ∙ ap some f))
   ]
 
   -- the sheet Fits exactly where each machine with each start below H is fitting
   pub fits-fitting : (verdict ms ≡ Fits) ↔ ((i s : ℕ) → i < length ms → s < hyperperiod ms → Fitting ms i s)
-  unfolding verdict
+  unfolding verdict machineGives
   fits-fitting = (
     λ e i s h b.
-        let z : machineGives i ≡ none =
-        firstOf-none machineGives 0 (length ms) (length ms) (omega arith) (fits-none e) i (omega arith) h in
-        gives-fitting ms i s (firstOf-none (gives ms i) 0 H H (omega arith) z s (omega arith) b),
-    λ F. rw (firstOf-absent machineGives 0 (length ms) (length ms) (omega arith) (λ i a h.
-        firstOf-absent (gives ms i) 0 H H (omega arith) (λ s c b. fitting-gives ms i s (F i s h b)))),
+        let z : machineGives ms i ≡ none =
+        firstOf-none (machineGives ms) 0 _ (fits-none e) i (omega arith) (omega arith) in
+        gives-fitting ms i s (firstOf-none (gives ms i) 0 _ z s (omega arith) (omega arith)),
+    λ F. rw (firstOf-absent (machineGives ms) 0 (length ms) (λ i a h.
+        firstOf-absent (gives ms i) 0 (hyperperiod ms) (λ s c b.
+        fitting-gives ms i s (F i s (omega arith) (omega arith))))),
   )

@@ -12,8 +12,8 @@ use Rattle.model.specs.Sizes.{ActionSizes, MachineSizes, Sizes}
 use Rattle.model.specs.Legal.{cost}
 use Rattle.model.specs.Reckon.{instant?, begins?, most, best, request, demand}
 use Rattle.model.specs.Search.{firstOf}
-use Rattle.model.specs.Verdict.{added, closes, closingLength, passes, failingLength, Judgement, Fits, Late}
-use Rattle.model.specs.Verdict.{gives, verdict}
+use Rattle.model.specs.Verdict.{added, closes, closingLength, hasRoom, passes, failingLength}
+use Rattle.model.specs.Verdict.{Judgement, Fits, Late, gives, machineGives, verdict}
 use Rattle.model.specs.Run.{job, Seat, Choice, rest, fire, Run, Allowed, join, trigger, serve, work, workOf, turn}
 use Rattle.model.specs.Run.{triggered, served, tick, fresh, play, LegalFrom, LegalRun, unitOf, done, Finished}
 use Rattle.model.specs.Run.{EachJob, InTime, OnTime, Safe}
@@ -49,8 +49,8 @@ tight-sizes = record { machines = omega arith; machine = only; hyperperiod = ome
 -- the verdict, open to its last name
 judged : List Machine → Judgement
 unfolding
-    verdict firstOf gives failingLength closingLength closes passes added request demand best most
-    begins? instant? cost hyperperiod allPeriods lcmFrom lcm gcd euclid
+    verdict machineGives firstOf gives failingLength closingLength closes passes hasRoom added request demand best
+    most begins? instant? cost hyperperiod allPeriods lcmFrom lcm gcd euclid
 judged ms = verdict ms
 
 pub tight-fits : verdict tight ≡ Fits

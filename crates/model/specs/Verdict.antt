@@ -31,10 +31,14 @@ abbrev pub lastTested : Option ℕ → ℕ
 lastTested none = 2048
 lastTested (some closing) = pred closing
 
--- some m from 0 to n has: the demand bound of machine i over [s, s + n], plus the request bounds over [s, s + m)
--- of machines 0 to i - 1, is at most m
+-- m has: the demand bound of machine i over [s, s + n], plus the request bounds over [s, s + m) of machines 0 to i - 1,
+-- is at most m
+unfoldable pub hasRoom : List Machine → ℕ → ℕ → ℕ → ℕ → Bool
+hasRoom ms i s n m = leb (demand (machineOf ms i) s n + requests ms i s m) m
+
+-- length n passes if some m from 0 to n has that
 unfoldable pub passes : List Machine → ℕ → ℕ → ℕ → Bool
-passes ms i s n = isFound (smallest 0 n (λ m. leb (demand (machineOf ms i) s n + requests ms i s m) m))
+passes ms i s n = isFound (smallest 0 n (hasRoom ms i s n))
 
 -- the smallest of the tested lengths that does not pass
 unfoldable pub failingLength : List Machine → ℕ → ℕ → Option ℕ
@@ -55,6 +59,10 @@ given ms i s none (some closing) = none
 unfoldable pub gives : List Machine → ℕ → ℕ → Option Judgement
 gives ms i s = given ms i s (failingLength ms i s) (closingLength ms i s)
 
--- machines in order, for each the starts 0 to H - 1 in order: the first that one gives, else Fits
+-- for machine i the starts 0 to H - 1 in order
+unfoldable pub machineGives : List Machine → ℕ → Option Judgement
+machineGives ms i = firstOf (gives ms i) 0 (hyperperiod ms)
+
+-- machines in order: the first that one gives, and if nothing is given, Fits
 unfoldable pub verdict : List Machine → Judgement
-verdict ms = Option·getD (firstOf (λ i. firstOf (gives ms i) 0 (hyperperiod ms)) 0 (length ms)) Fits
+verdict ms = Option·getD (firstOf (machineGives ms) 0 (length ms)) Fits
