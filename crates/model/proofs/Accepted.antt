@@ -1,6 +1,6 @@
 -- What the theorems ask of a sheet's machines holds of every sheet that keeps to the sizes.
 -- Assumes nothing.
-use Prim.Native.Nat.{ℕ, suc, _≤_, _<_, _%_}
+use Prim.Native.Nat.{ℕ, _≤_, _<_, _%_}
 use mathlib.Core.Path.{_≡_}
 use mathlib.Core.List.{List}
 use native.Mathlib.Omega.{arith}
@@ -8,7 +8,7 @@ use lib.ListN.{length}
 use Rattle.model.specs.Machine.{Machine, machineOf, divisor, hyperperiod}
 use Rattle.model.specs.Sizes.{MachineSizes, Sizes}
 use Rattle.model.specs.Legal.{MayBegin}
-use Rattle.model.specs.Reckon.{request, demand}
+use Rattle.model.specs.Reckon.{request}
 use Rattle.model.specs.Verdict.{requests}
 use Rattle.model.specs.Inside.{Repeats, Closed, Separate}
 use Rattle.model.proofs.Sizes.{divisor-divides, period-divides-hyperperiod}

@@ -10,8 +10,8 @@ use native.Mathlib.Decide.{decLe}
 use lib.ListN.{length}
 use Rattle.model.specs.Machine.{Machine, actionOf, machineOf, hyperperiod}
 use Rattle.model.specs.Sizes.{Sizes}
-use Rattle.model.specs.Legal.{MayBegin, Pair, total, asked}
-use Rattle.model.specs.Reckon.{request, demand}
+use Rattle.model.specs.Legal.{MayBegin, Pair}
+use Rattle.model.specs.Reckon.{request}
 use Rattle.model.specs.Verdict.{added, requests, Fits, verdict}
 use Rattle.model.specs.Run.{Job, job, Seat, Choice, Run, MayFire, Allowed, work, workOf, triggered, served, tick}
 use Rattle.model.specs.Run.{fresh, play, LegalFrom, LegalRun, EachJob, InTime, OnTime}
@@ -19,7 +19,7 @@ use Rattle.model.proofs.Sizes.{hyperperiod-positive}
 use Rattle.model.proofs.Accepted.{sizes-separate, sizes-closed, sizes-begin, sizes-repeat, requests-remainder}
 use Rattle.model.proofs.Bounds.{request-is, demand-is}
 use Rattle.model.proofs.Shift.{demand-remainder}
-use Rattle.model.proofs.Verdict.{Passes, Fitting, fits-fitting}
+use Rattle.model.proofs.Verdict.{Passes, fits-fitting}
 use Rattle.model.proofs.Added.{added-le, added-sum, added-zero}
 use Rattle.model.proofs.History.{each-map, due-asked, brought, extend, Since, since-begin, since-trigger}
 use Rattle.model.proofs.Queue.{jobs-map, jobs-empty, work-tick, turn-state}

@@ -14,8 +14,8 @@ use lib.Seq.{length-take-le, getD-take}
 use borrow.Author.Tests.{eq-eqb, eqb-true}
 use Rattle.model.specs.Machine.{Machine, count, actionOf, machineOf}
 use Rattle.model.specs.Sizes.{Sizes}
-use Rattle.model.specs.Run.{Job, job, Seat, Choice, rest, fire, Run, Allowed, tick, fresh, play, LegalFrom}
-use Rattle.model.specs.Run.{LegalRun, done, Finished, EachJob, InTime, OnTime}
+use Rattle.model.specs.Run.{Job, job, Seat, rest, fire, Run, Allowed, tick, fresh, play, LegalFrom}
+use Rattle.model.specs.Run.{LegalRun, Finished, EachJob, InTime, OnTime}
 use Rattle.model.proofs.Tests.{true-or-false, both-true}
 use Rattle.model.proofs.Units.{cond-zero, bringing, bringing-fired, leftOf, brought-at}
 use Rattle.model.proofs.Units.{brought-done-left, done-take}

@@ -1,13 +1,13 @@
 -- What a machine triggered since a tick, in a run: a legal sequence that grows at its end.
 -- Assumes nothing.
 use Prim.Native.Nat.{ℕ, suc, _+_, _≤_, _<_}
-use mathlib.Core.Path.{_≡_, refl, sym, _∙_}
+use mathlib.Core.Path.{_≡_, refl}
 use mathlib.Core.List.{List, [], _∷_, _++_}
 use native.Mathlib.Omega.{arith}
 use Rattle.model.specs.Machine.{Machine, count, actionOf}
 use Rattle.model.specs.Legal.{Instant, MayBegin, Pair, Taken, Chain, Legal, Each, Within, total, asked, askedBy}
 use Rattle.model.specs.Reckon.{pair}
-use Rattle.model.specs.Run.{Seat, Choice, rest, fire, MayFire, Allowed, trigger}
+use Rattle.model.specs.Run.{Seat, Choice, rest, fire, Allowed, trigger}
 use Rattle.model.specs.Inside.{Closed, Separate}
 use Rattle.model.proofs.Bounds.{askedBy-due}
 

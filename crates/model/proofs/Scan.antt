@@ -1,11 +1,11 @@
 -- The walk over the lengths gives what the definition gives; a length passes where its demand is at most the slack.
 -- Assumes nothing.
-use Prim.Native.Nat.{ℕ, zero, suc, pred, _+_, _-_, _≤_, _<_, max}
-use mathlib.Core.Path.{_≡_, refl, sym, ap, _∙_}
-use mathlib.Core.Bool.{Bool, true, false, cond, not}
+use Prim.Native.Nat.{ℕ, zero, suc, pred, _+_, _-_, _≤_}
+use mathlib.Core.Path.{_≡_, refl, _∙_}
+use mathlib.Core.Bool.{Bool, true, false, not}
 use mathlib.Core.Option.{Option, none, some}
 use mathlib.Core.List.{List}
-use mathlib.Core.Logic.{_⊎_, inl, inr, _↔_}
+use mathlib.Core.Logic.{inl, inr}
 use native.Mathlib.Omega.{arith}
 use native.Mathlib.Decide.{decLe}
 use lib.Dec.{leb}
@@ -20,7 +20,7 @@ use Rattle.model.proofs.Tests.{true-or-false, test-same}
 use Rattle.model.proofs.Bounds.{request-empty}
 use Rattle.model.proofs.Added.{added-cong, added-zero}
 use Rattle.model.proofs.Search.{none-or-some, smallest-some, smallest-found, smallest-next, smallest-past}
-use Rattle.model.proofs.Verdict.{Passes, passes-some}
+use Rattle.model.proofs.Verdict.{passes-some}
 
 module _ (ms : List Machine) (i s : ℕ) where
   -- one length of the walk: it closes, or it fails, or the walk goes on

@@ -1,20 +1,19 @@
 -- A sheet Fits where each machine and start has a closing length, and every shorter length passes.
 -- Assumes nothing.
-use Prim.Native.Nat.{ℕ, zero, suc, pred, _+_, _≤_, _<_}
+use Prim.Native.Nat.{ℕ, suc, pred, _+_, _≤_, _<_}
 use mathlib.Core.Path.{_≡_, refl, sym, ap, _∙_}
-use mathlib.Core.Bool.{Bool, true, false, not, false≢true}
+use mathlib.Core.Bool.{true, not, false≢true}
 use mathlib.Core.Option.{Option, none, some}
 use mathlib.Core.List.{List}
 use mathlib.Core.Logic.{inl, inr, _↔_}
 use native.Mathlib.Omega.{arith}
-use lib.Dec.{leb}
 use lib.ListN.{length}
 use borrow.Author.Tests.{le-leb, leb-true, not-false}
 use Rattle.model.specs.Machine.{Machine, machineOf, hyperperiod}
-use Rattle.model.specs.Reckon.{request, demand}
+use Rattle.model.specs.Reckon.{demand}
 use Rattle.model.specs.Search.{firstOf, smallest}
 use Rattle.model.specs.Verdict.{requests, closes, closingLength, hasRoom, passes, failingLength}
-use Rattle.model.specs.Verdict.{Judgement, Fits, given, gives, machineGives, verdict}
+use Rattle.model.specs.Verdict.{Fits, given, gives, machineGives, verdict}
 use Rattle.model.proofs.Search.{none-or-some, some-none, firstOf-none, firstOf-some, firstOf-absent}
 use Rattle.model.proofs.Search.{smallest-none, smallest-some, smallest-absent, smallest-below}
 

@@ -1,11 +1,11 @@
 -- Small sheets and runs, worked by computation: a sheet that Fits, PAIR's first instant to its end, a run that is late.
 -- Assumes nothing.
 use Prim.Native.Nat.{ℕ, zero, suc, _+_, _≤_, _<_}
-use mathlib.Core.Path.{_≡_, refl, ap, subst}
+use mathlib.Core.Path.{_≡_, refl, subst}
 use mathlib.Core.Bool.{true}
 use mathlib.Core.List.{List, [], _∷_, _++_}
 use native.Mathlib.Omega.{arith}
-use lib.ListN.{length, replicate}
+use lib.ListN.{replicate}
 use Rattle.number.specs.Divide.{euclid, gcd, lcm, gcdFrom, lcmFrom}
 use Rattle.model.specs.Machine.{Machine, count, actionOf, machineOf, divisor, allPeriods, hyperperiod}
 use Rattle.model.specs.Sizes.{ActionSizes, MachineSizes, Sizes}

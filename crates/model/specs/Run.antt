@@ -1,7 +1,7 @@
 -- Document 01, "Verdict", its last paragraph: runs of a sheet's machines, tick by tick, and finishing in time.
 use Prim.Native.Nat.{ℕ, zero, suc, _+_, _≤_, _<_}
 use mathlib.Core.Path.{_≡_}
-use mathlib.Core.Bool.{Bool, cond, _&&_}
+use mathlib.Core.Bool.{cond, _&&_}
 use mathlib.Core.List.{List, [], _∷_, _++_}
 use lib.Dec.{eqb}
 use lib.ListN.{length, getD, take}
@@ -63,7 +63,7 @@ work (job k r w ∷ queue) = w + work queue
 unfoldable pub workOf : (ℕ → Seat) → ℕ → ℕ
 workOf seats j = work (seats j .queue)
 
--- a machine's turn, by the work that is left of the machines above it: only where that is 0 the unit is the machine's
+-- a machine's turn, by the work that is left of the machines above it: only where that is 0 is the unit its own
 unfoldable pub turn : ℕ → Seat → Seat
 turn zero x = record { state = x .state; queue = serve (x .queue) }
 turn (suc above) x = x
@@ -87,7 +87,7 @@ unfoldable pub play : List Machine → ℕ → (ℕ → Seat) → Run → ℕ �
 play ms t seats [] = seats
 play ms t seats (choice ∷ run) = play ms (suc t) (tick ms t choice seats) run
 
--- every choice of the run is legal, from tick t on
+-- every choice of the run is legal, from tick t on (past the sheet's last machine there is no action to fire)
 abbrev pub LegalFrom : List Machine → ℕ → (ℕ → Seat) → Run → Type 0
 LegalFrom ms t seats [] = Unit
 LegalFrom ms t seats (choice ∷ run) =
@@ -98,7 +98,7 @@ LegalFrom ms t seats (choice ∷ run) =
 abbrev pub LegalRun : List Machine → Run → Type 0
 LegalRun ms run = LegalFrom ms 0 (fresh ms) run
 
--- the units that a machine's turn does of action k of instant r, by the work left above: one, if it is the oldest
+-- the units that a machine's turn does of action k of instant r: one, where the turn is its own and the action oldest
 unfoldable pub unitOf : ℕ → ℕ → ℕ → List Job → ℕ
 unitOf k r (suc above) queue = 0
 unitOf k r zero [] = 0
