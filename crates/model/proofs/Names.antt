@@ -106,3 +106,8 @@ closed-inside {m} c q e = c .inside q (begins?-law m q .0 e)
 pub closed-onward : {m : Machine} → Closed m → (k : ℕ) → k < count m → begins? m (actionOf m k .source) ≡ true
     → begins? m (actionOf m k .sink) ≡ true
 closed-onward {m} c k l e = begins?-law m _ .1 (c .onward k l (begins?-law m _ .0 e))
+
+-- a first pair may leave the initial state
+pub initial-begins : (m : Machine) → m .initial < m .states → MayBegin m (m .initial)
+unfolding MayBegin
+initial-begins m l = l

@@ -3,5 +3,9 @@ pub mod Sizes
 pub mod Legal
 pub mod Reckon
 pub mod Critical
-pub mod Inside
+pub mod Search
+pub mod Verdict
+pub mod Run
 pub mod Numbers
+pub mod Inside
+pub mod Scan
