@@ -8,6 +8,7 @@ use mathlib.Core.Logic.{_⊎_, inl, inr, ⊎-elim}
 use native.Mathlib.Omega.{arith}
 use native.Mathlib.Nat.{eq-or-lt-of-le}
 use native.Mathlib.Decide.{decLe}
+use borrow.Author.Count.{below-more}
 use Rattle.model.specs.Search.{firstOf, smallest}
 use Rattle.model.proofs.Tests.{true-or-false}
 
@@ -60,6 +61,37 @@ module _ {A : Type 0} (answer : ℕ → Option A) where
     | inl z ↦ z
     | inr x ↦ let (k, l, u, f, b) = firstOf-some low n (x .0) (x .1) in absurd (some-none (sym f ∙ h k l u))
   ]
+
+pub first-none : {A : Type 0} (answer : ℕ → Option A) (n : ℕ) → firstOf answer 0 n ≡ none → (k : ℕ) → k < n → answer k ≡ none
+first-none answer n e k l = firstOf-none answer 0 n e k (omega arith) (omega arith)
+
+-- a loop over 0, 1 and so on that has come to k: none of the numbers before k has an answer
+pub record Clear {A : Type 0} (answer : ℕ → Option A) (k : ℕ) : Type 0 where
+  pub before : (j : ℕ) → j < k → answer j ≡ none
+
+module _ {A : Type 0} {answer : ℕ → Option A} where
+  pub clear-begin : Clear answer 0
+  clear-begin = record { before = λ j l. absurd (omega arith) }
+
+  pub clear-more : {k : ℕ} → Clear answer k → answer k ≡ none → Clear answer (k + 1)
+  clear-more {k} h e = record { before = below-more (λ (j : ℕ). answer j ≡ none) k (h .before) e }
+
+  pub clear-end : {k : ℕ} (n : ℕ) → Clear answer k → n ≤ k → firstOf answer 0 n ≡ none
+  clear-end n h l = firstOf-absent answer 0 n (λ j a b. h .before j (omega arith))
+
+  pub clear-found : {k : ℕ} (n : ℕ) {a : A} → Clear answer k → k < n → answer k ≡ some a → firstOf answer 0 n ≡ some a
+  clear-found {k} n h l e =
+      elim (none-or-some (firstOf answer 0 n)) [
+        | inl z ↦ absurd (some-none (sym e ∙ firstOf-none answer 0 n z k (omega arith) (omega arith)))
+        | inr (x, f) ↦
+            let (j, low, high, g, b) = firstOf-some answer 0 n x f in
+            elim (decLe j k) [
+              | yes p ↦
+                  ⊎-elim (λ q. f ∙ sym g ∙ ap answer q ∙ e) (λ q. absurd (some-none (sym g ∙ h .before j q)))
+                  (eq-or-lt-of-le p)
+              | no p ↦ absurd (some-none (sym e ∙ b k (omega arith) (omega arith)))
+            ]
+      ]
 
 -- c is the smallest number from low to high that passes the test
 pub record Smallest (low high : ℕ) (test : ℕ → Bool) (c : ℕ) : Type 0 where

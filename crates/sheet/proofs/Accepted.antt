@@ -15,10 +15,12 @@ use Rattle.model.proofs.Names.{divisor-divides}
 use Rattle.model.proofs.Sizes.{hyperperiod-positive, period-divides-hyperperiod}
 use Rattle.sheet.specs.Format.{entry, trailerOffset, machineCount, decode}
 use Rattle.sheet.specs.Reply.{refusal}
-use Rattle.sheet.specs.Rules.{between, trailerInRange, entryInRange, entryRefusal, actionsBefore, offsetRefusal, endRefusal, actionInRange, deadlineInRange, actionRefusal, machineRefusal, firstOf, rule1, rule3, rule4, rule5, rule6, rule7, rule8, rule9}
+use Rattle.sheet.specs.Rules.{between, trailerInRange, entryInRange, entryRefusal, actionsBefore, offsetRefusal, endRefusal, actionInRange, deadlineInRange, actionRefusal, machineRefusal, rule1, rule3, rule4, rule5, rule6, rule7, rule8, rule9}
 use Rattle.sheet.specs.Inside.{Laid, Entered, Filled, Ranged, Accepted}
+use Rattle.model.specs.Search.{firstOf}
+use Rattle.model.proofs.Search.{first-none}
 use Rattle.sheet.proofs.Decode.{decode-count, decode-machine, decode-actions}
-use Rattle.sheet.proofs.First.{unless-none, orElse-none, first-none}
+use Rattle.sheet.proofs.First.{unless-none, orElse-none}
 use Rattle.sheet.proofs.Tests.{both, between-true}
 
 module _ (b : List ℕ) where
@@ -77,16 +79,16 @@ module _ (b : List ℕ) where
       ends : trailerOffset b ≡ 8 * actionsBefore b (machineCount b)
       ends =
           eqb-true (trailerOffset b) (8 * actionsBefore b (machineCount b))
-          (unless-none _ (refusal 6 (machineCount b) 0) (orElse-none (firstOf (machineCount b) (offsetRefusal b)) (endRefusal b (machineCount b)) six .1))
+          (unless-none _ (refusal 6 (machineCount b) 0) (orElse-none (firstOf (offsetRefusal b) 0 (machineCount b)) (endRefusal b (machineCount b)) six .1))
 
       offset : (k : ℕ) → k < machineCount b → entry b k .offset ≡ 8 * actionsBefore b k
       offset k known =
           eqb-true (entry b k .offset) (8 * actionsBefore b k)
           (unless-none _ (refusal 6 k 0) (first-none (offsetRefusal b) (machineCount b)
-          (orElse-none (firstOf (machineCount b) (offsetRefusal b)) (endRefusal b (machineCount b)) six .0) k known))
+          (orElse-none (firstOf (offsetRefusal b) 0 (machineCount b)) (endRefusal b (machineCount b)) six .0) k known))
 
   -- where no action of any machine fails a test
-  all-keep : (test : Machine → Action → Bool) (n : ℕ) → firstOf (machineCount b) (machineRefusal test n b) ≡ none
+  all-keep : (test : Machine → Action → Bool) (n : ℕ) → firstOf (machineRefusal test n b) 0 (machineCount b) ≡ none
       → (k j : ℕ) → k < machineCount b → j < count (machineOf (decode b) k)
       → test (machineOf (decode b) k) (actionOf (machineOf (decode b) k) j) ≡ true
   all-keep test n e k j known l =

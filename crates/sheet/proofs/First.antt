@@ -1,4 +1,4 @@
--- The first refusal: laws of `unless`, `orElse` and `firstOf`.
+-- Refusals one after another: laws of `unless` and `orElse`.
 -- Assumes nothing.
 use Prim.Native.Nat.{ℕ, zero, suc, _+_, _-_, _≤_, _<_}
 use mathlib.Core.Path.{_≡_, refl, sym, _∙_, ap}
@@ -11,7 +11,7 @@ use native.Mathlib.Nat.{not-suc-le-zero, le-of-suc-le-suc, eq-or-lt-of-le, le-an
 use lib.Dec.{eqb}
 use borrow.Author.Tests.{not-true, not-false, eq-eqb, ne-eqb}
 use Rattle.sheet.specs.declared.Refusal.{Refusal}
-use Rattle.sheet.specs.Rules.{unless, _orElse_, firstOf}
+use Rattle.sheet.specs.Rules.{unless, _orElse_}
 
 -- what the code's test t says of a rule's test
 pub broken-here : (t : Bool) {test : Bool} (r : Refusal) → t ≡ test → not t ≡ true → unless test r ≡ some r
@@ -44,41 +44,3 @@ orElse-none (some r) b e = absurd (Option·none-ne-some r (sym e))
 pub orElse-assoc : (a b c : Option Refusal) → (a orElse b) orElse c ≡ a orElse (b orElse c)
 orElse-assoc none b c = refl
 orElse-assoc (some r) b c = refl
-
--- no refusal at the places before k
-pub record Clear (at : ℕ → Option Refusal) (k : ℕ) : Type 0 where
-  pub none-before : firstOf k at ≡ none
-
-pub clear-begin : {at : ℕ → Option Refusal} → Clear at 0
-unfolding firstOf
-clear-begin = record { none-before = refl }
-
-pub clear-more : {at : ℕ → Option Refusal} {k : ℕ} → Clear at k → at k ≡ none → Clear at (k + 1)
-unfolding firstOf
-clear-more h e = record { none-before = rw (add-one, h .none-before) e }
-
-pub clear-end : {at : ℕ → Option Refusal} {k : ℕ} (n : ℕ) → Clear at k → k ≤ n → n ≤ k → firstOf n at ≡ none
-clear-end n h a b = rw (← (le-antisymm a b)) (h .none-before)
-
--- the first refusal of some places is the first of more
-first-stays : (at : ℕ → Option Refusal) (k : ℕ) (r : Refusal) (more : ℕ) → firstOf k at ≡ some r → firstOf (more + k) at ≡ some r
-unfolding firstOf
-first-stays at k r zero e = ap (λ n. firstOf n at) (let z : zero + k ≡ k = omega arith in z) ∙ e
-first-stays at k r (suc more) e =
-    ap (λ n. firstOf n at) (let z : suc more + k ≡ suc (more + k) = omega arith in z)
-    ∙ rw (first-stays at k r more e) refl
-
--- none before k, and one at k
-pub clear-found : {at : ℕ → Option Refusal} {k : ℕ} (n : ℕ) {r : Refusal} → Clear at k → k < n → at k ≡ some r → firstOf n at ≡ some r
-unfolding firstOf
-clear-found {at} {k} n {r} h l e =
-    ap (λ x. firstOf x at) (let z : n ≡ (n - suc k) + suc k = omega arith in z)
-    ∙ first-stays at (suc k) r (n - suc k) (rw (h .none-before) e)
-
--- where there is none, no place has one
-pub first-none : (at : ℕ → Option Refusal) (n : ℕ) → firstOf n at ≡ none → (k : ℕ) → k < n → at k ≡ none
-unfolding firstOf
-first-none at zero e k l = absurd (not-suc-le-zero l)
-first-none at (suc n) e k l =
-    let (a, b) = orElse-none (firstOf n at) (at n) e in
-    ⊎-elim (λ z. rw z b) (λ d. first-none at n a k d) (eq-or-lt-of-le (le-of-suc-le-suc l))

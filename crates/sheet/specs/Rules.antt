@@ -7,6 +7,7 @@ use lib.Dec.{leb, ltb, eqb}
 use lib.ListN.{length}
 use Rattle.model.specs.Machine.{Action, Machine, count, actionOf, machineOf, divisor, hyperperiod}
 use Rattle.sheet.specs.Format.{Entry, entry, trailerOffset, machineCount, lastFour, mark, decode}
+use Rattle.model.specs.Search.{firstOf}
 use Rattle.sheet.specs.declared.Refusal.{Refusal}
 use Rattle.sheet.specs.Reply.{refusal}
 
@@ -20,11 +21,6 @@ infixr 20 _orElse_
 abbrev pub _orElse_ : Option Refusal → Option Refusal → Option Refusal
 none orElse later = later
 some r orElse later = some r
-
--- the first refusal at the places 0 to k − 1
-unfoldable pub firstOf : ℕ → (ℕ → Option Refusal) → Option Refusal
-firstOf zero at = none
-firstOf (suc k) at = firstOf k at orElse at k
 
 -- tests: from low to high, and the same bytes in the same order
 abbrev pub between : ℕ → ℕ → ℕ → Bool
@@ -66,7 +62,7 @@ abbrev pub entryRefusal : List ℕ → ℕ → Option Refusal
 entryRefusal b k = unless (entryInRange (entry b k)) (refusal 5 k 0)
 
 abbrev pub rule5 : List ℕ → Option Refusal
-rule5 b = firstOf (machineCount b) (entryRefusal b)
+rule5 b = firstOf (entryRefusal b) 0 (machineCount b)
 
 -- how many actions the machines before k have
 unfoldable pub actionsBefore : List ℕ → ℕ → ℕ
@@ -81,7 +77,7 @@ abbrev pub endRefusal : List ℕ → ℕ → Option Refusal
 endRefusal b k = unless (eqb (trailerOffset b) (8 * actionsBefore b k)) (refusal 6 k 0)
 
 abbrev pub rule6 : List ℕ → Option Refusal
-rule6 b = firstOf (machineCount b) (offsetRefusal b) orElse endRefusal b (machineCount b)
+rule6 b = firstOf (offsetRefusal b) 0 (machineCount b) orElse endRefusal b (machineCount b)
 
 -- 7: an action's state, period or time out of range, or deadline 0
 abbrev pub actionInRange : Machine → Action → Bool
@@ -99,10 +95,10 @@ actionRefusal test n m k j = unless (test m (actionOf m j)) (refusal n k j)
 abbrev pub machineRefusal : (Machine → Action → Bool) → ℕ → List ℕ → ℕ → Option Refusal
 machineRefusal test n b k =
     let m = machineOf (decode b) k in
-    firstOf (count m) (actionRefusal test n m k)
+    firstOf (actionRefusal test n m k) 0 (count m)
 
 abbrev pub actionsRefusal : (Machine → Action → Bool) → ℕ → List ℕ → Option Refusal
-actionsRefusal test n b = firstOf (machineCount b) (machineRefusal test n b)
+actionsRefusal test n b = firstOf (machineRefusal test n b) 0 (machineCount b)
 
 abbrev pub rule7 : List ℕ → Option Refusal
 rule7 b = actionsRefusal actionInRange 7 b

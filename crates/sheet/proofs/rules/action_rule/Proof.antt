@@ -1,4 +1,4 @@
-use Rattle.sheet.proofs.First.{Clear, clear-begin, clear-found, clear-more, clear-end}
+use Rattle.model.proofs.Search.{Clear, clear-begin, clear-found, clear-more, clear-end}
 use Rattle.sheet.specs.Inside.{found, keepsIn}
 use Rattle.sheet.specs.Rules.{machineRefusal}
 use borrow.Author.Needs.{needs}
@@ -51,7 +51,7 @@ loop-again c =
 returns-2 : tie.Need-returns-2 Inv-loop μ-loop
 returns-2 c =
     let counted = c .before .before .machine-count .ensures .0 in
-    sym (clear-end _ (c .before .loop .inv .1) (omega (arith, counted)) (omega (arith, counted)))
+    sym (clear-end _ (c .before .loop .inv .1) (omega (arith, counted)))
 
 pub action-rule-spec : {M : Type 1} → statement M
 action-rule-spec =

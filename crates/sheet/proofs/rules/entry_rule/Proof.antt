@@ -1,4 +1,5 @@
-use Rattle.sheet.proofs.First.{broken-here, kept-here, Clear, clear-begin, clear-found, clear-more, clear-end}
+use Rattle.model.proofs.Search.{Clear, clear-begin, clear-found, clear-more, clear-end}
+use Rattle.sheet.proofs.First.{broken-here, kept-here}
 use Rattle.sheet.specs.Rules.{entryRefusal}
 use native.Mathlib.Omega.{arith}
 use mathlib.Core.Path.{_≡_, sym, _∙_}
@@ -48,7 +49,7 @@ loop-again c =
 returns-2 : tie.Need-returns-2 Inv-loop μ-loop
 returns-2 c =
     let counted = c .before .before .machine-count .ensures .0 in
-    sym (clear-end _ (c .before .loop .inv .1) (omega (arith, counted)) (omega (arith, counted)))
+    sym (clear-end _ (c .before .loop .inv .1) (omega (arith, counted)))
 
 pub entry-rule-spec : {M : Type 1} → statement M
 entry-rule-spec =

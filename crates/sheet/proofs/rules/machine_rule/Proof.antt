@@ -1,6 +1,7 @@
 use Rattle.sheet.proofs.Walk.{action-inside, action-read}
 use Rattle.sheet.proofs.Tests.{keeps-read}
-use Rattle.sheet.proofs.First.{broken-here, kept-here, Clear, clear-begin, clear-found, clear-more, clear-end}
+use Rattle.model.proofs.Search.{Clear, clear-begin, clear-found, clear-more, clear-end}
+use Rattle.sheet.proofs.First.{broken-here, kept-here}
 use Rattle.sheet.specs.Inside.{keepsIn}
 use Rattle.sheet.specs.Rules.{actionRefusal}
 use Rattle.sheet.specs.Format.{decode}
@@ -98,7 +99,7 @@ loop-again c = (
 returns-2 : tie.Need-returns-2 Inv-loop μ-loop
 returns-2 c =
     let counted = c .before .before .before .before .action-count .ensures in
-    sym (clear-end _ (c .before .loop .inv .1) (omega (arith, counted)) (omega (arith, counted)))
+    sym (clear-end _ (c .before .loop .inv .1) (omega (arith, counted)))
 
 pub machine-rule-spec : {M : Type 1} → statement M
 machine-rule-spec =

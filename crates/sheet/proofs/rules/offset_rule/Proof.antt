@@ -1,6 +1,8 @@
 use Rattle.sheet.proofs.Tests.{begin-next, end-broken, end-kept}
-use Rattle.sheet.proofs.First.{equal-broken, equal-kept, orElse-found, orElse-clear, Clear, clear-begin, clear-found, clear-more, clear-end}
-use Rattle.sheet.specs.Rules.{actionsBefore, offsetRefusal, firstOf}
+use Rattle.model.proofs.Search.{Clear, clear-begin, clear-found, clear-more, clear-end}
+use Rattle.sheet.proofs.First.{equal-broken, equal-kept, orElse-found, orElse-clear}
+use Rattle.sheet.specs.Rules.{actionsBefore, offsetRefusal}
+use Rattle.model.specs.Search.{firstOf}
 use Rattle.sheet.specs.Format.{machineCount}
 use mathlib.Core.Option.{none}
 use native.Mathlib.Omega.{arith}
@@ -31,10 +33,10 @@ last : (c : tie.After-loop Inv-loop μ-loop) → c .before .loop .k ≡ c .befor
 last c = omega arith
 
 none-before : (c : tie.After-loop Inv-loop μ-loop)
-    → firstOf (machineCount (c .before .before .before .before .args .sheet .now)) (offsetRefusal (c .before .before .before .before .args .sheet .now)) ≡ none
+    → firstOf (offsetRefusal (c .before .before .before .before .args .sheet .now)) 0 (machineCount (c .before .before .before .before .args .sheet .now)) ≡ none
 none-before c =
     let counted = c .before .before .machine-count .ensures .0 in
-    clear-end _ (c .before .loop .inv .3) (omega (arith, counted)) (omega (arith, counted))
+    clear-end _ (c .before .loop .inv .3) (omega (arith, counted))
 
 machine-count-requires : tie.Need-machine-count-requires Inv-loop μ-loop
 machine-count-requires c κs = omega arith
