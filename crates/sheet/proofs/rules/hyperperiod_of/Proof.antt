@@ -38,7 +38,7 @@ loop-holds : tie.Need-loop-holds Inv-loop μ-loop
 loop-holds c = (omega arith, omega arith, gathering-begin)
 
 multiple-of-requires : tie.Need-multiple-of-requires Inv-loop μ-loop
-multiple-of-requires c κs = (c .before .before .before .before .pre, known c, c .before .loop .inv .1)
+multiple-of-requires c κs = (c .before .before .before .before .pre, known c, omega arith)
 
 returns : tie.Need-returns Inv-loop μ-loop
 returns c =
