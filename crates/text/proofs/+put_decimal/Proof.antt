@@ -1,0 +1,145 @@
+-- Digit by digit: the measure is the number.
+use Rattle.text.proofs.put_byte.Reads as put-byte-reads
+use Rattle.text.proofs.Laws.{decimal-digit, decimal-more, decimal-length, put-then}
+use lib.ListN.{length, length-append}
+use native.Mathlib.Nat.{div-lt-self}
+use native.Mathlib.Omega.{arith}
+use mathlib.Core.Path.{_≡_, _∙_, ap}
+use Prim.Native.Nat.{_/_}
+use Prim.Native.Nat.{ℕ, _<_}
+use borrow.Fn.Kinds.{In}
+use borrow.Fn.PlainCycle.{Measures, is, falls, and}
+use Rattle.text.proofs.put_decimal.Reads as put-decimal
+use Rattle.text.proofs.put_decimal.Kinds as put-decimal-kinds
+use Rattle.text.proofs.+put_decimal.Lts-put_decimal as put-decimal-lts
+use Rattle.text.proofs.+put_decimal.{statement}
+use Rattle.text.proofs.+put_decimal.Tie.{close}
+
+abbrev μ-put-decimal : Measures 1 put-decimal-kinds.ps ℕ
+μ-put-decimal κs a = a .1 .1 .0
+
+abbrev put-decimal-at : ℕ → In 1 put-decimal-kinds.ps
+put-decimal-at t =
+    and 1 put-decimal-kinds.ps (is 1 put-decimal-kinds.ps μ-put-decimal t) put-decimal.Pre
+
+abbrev put-decimal-below : ℕ → In 1 put-decimal-kinds.ps
+put-decimal-below t =
+    and 1 put-decimal-kinds.ps (falls 1 put-decimal-kinds.ps _<_ μ-put-decimal t) put-decimal.Pre
+
+put-decimal-cast-put-byte : (t : ℕ) → put-decimal-lts.Need-cast-put-byte (
+  put-byte-reads.Asked,
+  put-byte-reads.Learnt,
+  put-decimal-below t,
+  put-decimal.Post,
+) (put-decimal-at t) put-decimal.Post
+put-decimal-cast-put-byte t c = omega arith
+
+put-decimal-add-put-byte : (t : ℕ) → put-decimal-lts.Need-add-put-byte (
+  put-byte-reads.Asked,
+  put-byte-reads.Learnt,
+  put-decimal-below t,
+  put-decimal.Post,
+) (put-decimal-at t) put-decimal.Post
+put-decimal-add-put-byte t c = omega arith
+
+put-decimal-put-byte-requires : (t : ℕ) → put-decimal-lts.Need-put-byte-requires (
+  put-byte-reads.Asked,
+  put-byte-reads.Learnt,
+  put-decimal-below t,
+  put-decimal.Post,
+) (put-decimal-at t) put-decimal.Post
+put-decimal-put-byte-requires t c κs = omega (arith, c .before .before .before .pre .1, ap length (decimal-digit _ (c .before .if1 .taken)))
+
+put-decimal-same-length : (t : ℕ) → put-decimal-lts.Need-same-length (
+  put-byte-reads.Asked,
+  put-byte-reads.Learnt,
+  put-decimal-below t,
+  put-decimal.Post,
+) (put-decimal-at t) put-decimal.Post
+put-decimal-same-length t c = c .before .before .put-byte .ensures .size
+
+put-decimal-returns : (t : ℕ) → put-decimal-lts.Need-returns (
+  put-byte-reads.Asked,
+  put-byte-reads.Learnt,
+  put-decimal-below t,
+  put-decimal.Post,
+) (put-decimal-at t) put-decimal.Post
+put-decimal-returns t c = rw (decimal-digit _ (c .before .before .before .before .if1 .taken)) (c .before .before .put-byte .ensures)
+
+put-decimal-put-decimal-requires : (t : ℕ) → put-decimal-lts.Need-put-decimal-requires (
+  put-byte-reads.Asked,
+  put-byte-reads.Learnt,
+  put-decimal-below t,
+  put-decimal.Post,
+) (put-decimal-at t) put-decimal.Post
+put-decimal-put-decimal-requires t c κs =
+    let start = c .before .before .before in (
+      omega (arith, start .pre .0, div-lt-self {n = start .args .n} {k = 10} (omega arith) (omega arith)),
+      omega (arith, start .pre .1, decimal-length _ (c .before .if1 .left)),
+    )
+
+put-decimal-cast-put-byte-2 : (t : ℕ) → put-decimal-lts.Need-cast-put-byte-2 (
+  put-byte-reads.Asked,
+  put-byte-reads.Learnt,
+  put-decimal-below t,
+  put-decimal.Post,
+) (put-decimal-at t) put-decimal.Post
+put-decimal-cast-put-byte-2 t c = omega arith
+
+put-decimal-add-put-byte-2 : (t : ℕ) → put-decimal-lts.Need-add-put-byte-2 (
+  put-byte-reads.Asked,
+  put-byte-reads.Learnt,
+  put-decimal-below t,
+  put-decimal.Post,
+) (put-decimal-at t) put-decimal.Post
+put-decimal-add-put-byte-2 t c = omega arith
+
+put-decimal-put-byte-requires-2 : (t : ℕ) → put-decimal-lts.Need-put-byte-requires-2 (
+  put-byte-reads.Asked,
+  put-byte-reads.Learnt,
+  put-decimal-below t,
+  put-decimal.Post,
+) (put-decimal-at t) put-decimal.Post
+put-decimal-put-byte-requires-2 t c κs =
+    let called = c .before .before .before in
+    let start = called .before .before .before .before in
+    omega (arith, start .pre .1, called .put-decimal .ensures .next, called .put-decimal .ensures .size, decimal-length _ (called .before .before .if1 .left))
+
+put-decimal-same-length-2 : (t : ℕ) → put-decimal-lts.Need-same-length-2 (
+  put-byte-reads.Asked,
+  put-byte-reads.Learnt,
+  put-decimal-below t,
+  put-decimal.Post,
+) (put-decimal-at t) put-decimal.Post
+put-decimal-same-length-2 t c = c .before .before .put-byte2 .ensures .size ∙ c .before .before .before .before .before .before .put-decimal .ensures .size
+
+put-decimal-returns-2 : (t : ℕ) → put-decimal-lts.Need-returns-2 (
+  put-byte-reads.Asked,
+  put-byte-reads.Learnt,
+  put-decimal-below t,
+  put-decimal.Post,
+) (put-decimal-at t) put-decimal.Post
+put-decimal-returns-2 t c =
+    let called = c .before .before .before .before .before .before in
+    rw (decimal-more _ (called .before .before .if1 .left)) (put-then (called .put-decimal .ensures) (c .before .before .put-byte2 .ensures))
+
+pub +put-decimal-spec : {M : Type 1} → statement M
++put-decimal-spec = close μ-put-decimal λ t. put-decimal-lts.spec (
+  put-byte-reads.Asked,
+  put-byte-reads.Learnt,
+  put-decimal-below t,
+  put-decimal.Post,
+)
+    (put-decimal-at t)
+    put-decimal.Post
+    (put-decimal-cast-put-byte t)
+    (put-decimal-add-put-byte t)
+    (put-decimal-put-byte-requires t)
+    (put-decimal-same-length t)
+    (put-decimal-returns t)
+    (put-decimal-put-decimal-requires t)
+    (put-decimal-cast-put-byte-2 t)
+    (put-decimal-add-put-byte-2 t)
+    (put-decimal-put-byte-requires-2 t)
+    (put-decimal-same-length-2 t)
+    (put-decimal-returns-2 t)

@@ -1,0 +1,65 @@
+-- Laws of pieces of text, and of decimal digits.
+-- Assumes nothing.
+use Prim.Native.Nat.{ℕ, zero, suc, _+_, _-_, _*_, _/_, _%_, _≤_, _<_}
+use mathlib.Core.Path.{_≡_, refl, sym, _∙_, ap}
+use mathlib.Core.Bool.{cond}
+use mathlib.Core.List.{List, [], _∷_, _++_, append-assoc, append-nil}
+use native.Mathlib.Omega.{arith}
+use native.Mathlib.Numerals.{add-one}
+use native.Mathlib.Nat.{div-lt-self, add-zero, not-suc-le-zero}
+use lib.Dec.{ltb}
+use lib.ListN.{length, take, set, getD, length-set, length-append}
+use lib.Seq.{take-suc-set, take-suc, take-all}
+use borrow.Author.Tests.{lt-ltb, le-ltb}
+use Rattle.text.specs.Text.{digits, decimal}
+use Rattle.text.specs.Inside.{Put}
+
+-- more places than a number has digits change nothing
+digits-enough : (p q n : ℕ) → n < p → n < q → digits p n ≡ digits q n
+unfolding digits
+digits-enough zero q n a b = absurd (not-suc-le-zero a)
+digits-enough (suc p) zero n a b = absurd (not-suc-le-zero b)
+digits-enough (suc p) (suc q) zero a b = refl
+digits-enough (suc p) (suc q) (suc n) a b =
+    let l : suc n / 10 < suc n = div-lt-self (omega arith) (omega arith) in
+    ap (λ d. cond (ltb (suc n) 10) ((48 + suc n) ∷ []) (d ++ ((48 + suc n % 10) ∷ [])))
+    (digits-enough p q (suc n / 10) (omega arith) (omega arith))
+
+pub decimal-digit : (n : ℕ) → n < 10 → decimal n ≡ (48 + n) ∷ []
+unfolding decimal digits
+decimal-digit n l = rw (lt-ltb n 10 l)
+
+pub decimal-more : (n : ℕ) → 10 ≤ n → decimal n ≡ decimal (n / 10) ++ ((48 + n % 10) ∷ [])
+unfolding decimal digits
+decimal-more n l =
+    rw (le-ltb n 10 l)
+    (ap (λ d. d ++ ((48 + n % 10) ∷ [])) (digits-enough n (suc (n / 10)) (n / 10) (div-lt-self (omega arith) (omega arith)) (omega arith)))
+
+pub decimal-length : (n : ℕ) → 10 ≤ n → length (decimal n) ≡ length (decimal (n / 10)) + 1
+decimal-length n l = ap length (decimal-more n l) ∙ length-append (decimal (n / 10)) ((48 + n % 10) ∷ [])
+
+-- a piece and the piece after it
+pub put-then : {b0 b1 b2 : List ℕ} {at r1 r2 : ℕ} {x y : List ℕ} → Put b0 at x r1 b1 → Put b1 r1 y r2 b2 → Put b0 at (x ++ y) r2 b2
+put-then {b0} {b1} {b2} {at} {r1} {r2} {x} {y} p q =
+    record {
+      next = omega (arith, p .next, q .next, length-append x y);
+      size = q .size ∙ p .size;
+      says = q .says ∙ ap (λ l. l ++ y) (p .says) ∙ append-assoc (take at b0) x y;
+    }
+
+pub put-one : (b : List ℕ) (at x : ℕ) → at < length b → Put b at (x ∷ []) (at + 1) (set b at x)
+put-one b at x l =
+    record { next = refl; size = length-set b at x; says = rw add-one (take-suc-set b at x l) }
+
+-- a loop that has put the first i characters
+pub put-begin : (b : List ℕ) (at : ℕ) → Put b at [] (at + 0) b
+put-begin b at = record { next = refl; size = refl; says = ap (λ n. take n b) (add-zero at) ∙ sym (append-nil (take at b)) }
+
+pub put-more : {b c : List ℕ} {at i : ℕ} (text : List ℕ) → Put b at (take i text) (at + i) c → i < length text → at + i < length c
+    → Put b at (take (i + 1) text) (at + (i + 1)) (set c (at + i) (getD text i 0))
+put-more {b} {c} {at} {i} text p l h =
+    rw (add-one, take-suc text i 0 l, let z : at + suc i ≡ at + i + 1 = omega arith in z)
+    (put-then p (put-one c (at + i) (getD text i 0) h))
+
+pub put-end : {b c : List ℕ} {at i : ℕ} (text : List ℕ) → Put b at (take i text) (at + i) c → length text ≤ i → Put b at text (at + i) c
+put-end {b} {c} {at} {i} text p l = rw (take-all i text l) at p

@@ -1,0 +1,11 @@
+-- What the contracts of inner functions cite, and no reader has to believe.
+use Prim.Native.Nat.{ℕ, _+_}
+use mathlib.Core.Path.{_≡_}
+use mathlib.Core.List.{List, _++_}
+use lib.ListN.{length, take}
+
+-- the text stands at `at` after what was before it, and the next piece goes to r
+pub record Put (before : List ℕ) (at : ℕ) (text : List ℕ) (r : ℕ) (after : List ℕ) : Type 0 where
+  pub next : r ≡ at + length text
+  pub size : length after ≡ length before
+  pub says : take r after ≡ take at before ++ text
