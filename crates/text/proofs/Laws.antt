@@ -1,17 +1,18 @@
 -- Laws of pieces of text, and of decimal digits.
 -- Assumes nothing.
-use Prim.Native.Nat.{ℕ, zero, suc, _+_, _-_, _*_, _/_, _%_, _≤_, _<_}
+use Prim.Native.Nat.{ℕ, zero, suc, _+_, _-_, _*_, _/_, _%_, _^_, _≤_, _<_}
 use mathlib.Core.Path.{_≡_, refl, sym, _∙_, ap}
 use mathlib.Core.Bool.{cond}
 use mathlib.Core.List.{List, [], _∷_, _++_, append-assoc, append-nil}
 use native.Mathlib.Omega.{arith}
 use native.Mathlib.Numerals.{add-one}
-use native.Mathlib.Nat.{div-lt-self, add-zero, not-suc-le-zero}
+use native.Mathlib.Nat.{div-lt-self, div-lt-iff-lt-mul, add-zero, not-suc-le-zero, pow-suc}
+use native.Mathlib.Decide.{decLt}
 use lib.Dec.{ltb}
 use lib.ListN.{length, take, set, getD, length-set, length-append}
 use lib.Seq.{take-suc-set, take-suc, take-all}
 use borrow.Author.Tests.{lt-ltb, le-ltb}
-use Rattle.text.specs.Text.{digits, decimal}
+use Rattle.text.specs.Text.{digits, decimal, spaced}
 use Rattle.text.specs.Inside.{Put}
 
 -- more places than a number has digits change nothing
@@ -63,3 +64,39 @@ put-more {b} {c} {at} {i} text p l h =
 
 pub put-end : {b c : List ℕ} {at i : ℕ} (text : List ℕ) → Put b at (take i text) (at + i) c → length text ≤ i → Put b at text (at + i) c
 put-end {b} {c} {at} {i} text p l = rw (take-all i text l) at p
+
+-- a number below 10 to the power k + 1 has at most k + 1 digits
+decimal-limit : (k n : ℕ) → n < 10 ^ suc k → length (decimal n) ≤ suc k
+decimal-limit zero n h = omega (arith, ap length (decimal-digit n (omega arith)))
+decimal-limit (suc k) n h =
+    elim (decLt n 10) [
+      | yes l ↦ omega (arith, ap length (decimal-digit n l))
+      | no l ↦
+          let fewer : n / 10 < 10 ^ suc k =
+          div-lt-iff-lt-mul {k = 10} {x = n} {y = 10 ^ suc k} (omega arith) .1 (rw (pow-suc 10 (suc k)) at h) in
+          omega (arith, decimal-length n (let z : 10 ≤ n = omega arith in z), decimal-limit k (n / 10) fewer)
+    ]
+
+pub word-digits : (n : ℕ) → n < 2 ^ 32 → length (decimal n) ≤ 10
+word-digits n h = decimal-limit 9 n (omega arith)
+
+spaced-append : (ns ms : List ℕ) → spaced (ns ++ ms) ≡ spaced ns ++ spaced ms
+unfolding spaced
+spaced-append [] ms = refl
+spaced-append (n ∷ ns) ms =
+    ap (λ l. 32 ∷ decimal n ++ l) (spaced-append ns ms) ∙ ap (λ l. 32 ∷ l) (sym (append-assoc (decimal n) (spaced ns) (spaced ms)))
+
+-- a loop that has put the first i numbers
+pub spaced-begin : (b : List ℕ) (at : ℕ) → Put b at (spaced []) at b
+unfolding spaced
+spaced-begin b at = rw add-zero at (put-begin b at)
+
+pub spaced-more : {b c c1 c2 : List ℕ} {at i r r1 r2 : ℕ} (ns : List ℕ) → Put b at (spaced (take i ns)) r c → Put c r (32 ∷ []) r1 c1
+    → Put c1 r1 (decimal (getD ns i 0)) r2 c2 → i < length ns → Put b at (spaced (take (i + 1) ns)) r2 c2
+unfolding spaced
+spaced-more {at = at} {i = i} ns p q s l =
+    rw (add-one, take-suc ns i 0 l, spaced-append (take i ns) (getD ns i 0 ∷ []), append-nil (decimal (getD ns i 0)))
+    (put-then p (put-then q s))
+
+pub spaced-end : {b c : List ℕ} {at i r : ℕ} (ns : List ℕ) → Put b at (spaced (take i ns)) r c → length ns ≤ i → Put b at (spaced ns) r c
+spaced-end {i = i} ns p l = rw (take-all i ns l) at p

@@ -1,8 +1,15 @@
 -- Text as a list of ASCII characters.
 use Prim.Native.Nat.{ℕ, zero, suc, _+_, _/_, _%_}
+use Prim.Native.String.{String, [] as end, _∷_ as _then_}
+use Prim.Native.Char.{code}
 use mathlib.Core.Bool.{cond}
 use mathlib.Core.List.{List, [], _∷_, _++_}
 use lib.Dec.{ltb}
+
+-- the characters of a quoted text
+abbrev pub ascii : String → List ℕ
+ascii end = []
+ascii (_then_ c s) = code c ∷ ascii s
 
 -- the digits of n, at most as many as `places`
 unfoldable pub digits : ℕ → ℕ → List ℕ
@@ -12,3 +19,12 @@ digits (suc places) n = cond (ltb n 10) ((48 + n) ∷ []) (digits places (n / 10
 -- n in decimal digits, without leading zeros: a number has at most as many as itself, and one
 unfoldable pub decimal : ℕ → List ℕ
 decimal n = digits (suc n) n
+
+-- numbers, each after a space
+unfoldable pub spaced : List ℕ → List ℕ
+spaced [] = []
+spaced (n ∷ ns) = 32 ∷ decimal n ++ spaced ns
+
+-- a word and numbers, as a line of their own
+abbrev pub line : List ℕ → List ℕ → List ℕ
+line word ns = word ++ (spaced ns ++ (10 ∷ []))

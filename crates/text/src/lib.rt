@@ -2,9 +2,9 @@
 // bytes before it, and answers where the next piece goes. Definitions: specs/Text.antt.
 ghost use mathlib.Core.Path.{_≡_};
 ghost use mathlib.Core.List.{[], _∷_};
-ghost use Prim.Native.Nat.{_+_, _≤_, _<_};
+ghost use Prim.Native.Nat.{_+_, _*_, _≤_, _<_};
 ghost use lib.ListN.{length};
-ghost use Rattle.text.specs.Text.{decimal};
+ghost use Rattle.text.specs.Text.{decimal, spaced, line};
 ghost use Rattle.text.specs.Inside.{Put};
 
 // One character.
@@ -39,4 +39,29 @@ pub fn put_decimal(out: &mut [u8], at: usize, n: u32) -> usize
     }
     let next = put_decimal(out, at, n / 10);
     put_byte(out, next, 48 + (n % 10) as u8)
+}
+
+// Numbers, each after a space.
+pub fn put_spaced(out: &mut [u8], at: usize, numbers: &[u32]) -> usize
+    requires { ⌜ at + 11 * length (now numbers) ≤ length (now out) ⌝ }
+    ensures { λ r. ⌜ Put (now (out .entry)) at (spaced (now (numbers .entry))) r (now (out .exit)) × (r ≤ at + 11 * length (now (numbers .entry))) ⌝ }
+{
+    let mut next = at;
+    let mut i = 0;
+    while i < numbers.len() {
+        let digits = put_byte(out, next, 32);
+        next = put_decimal(out, digits, numbers[i]);
+        i += 1;
+    }
+    next
+}
+
+// A word and numbers, as a line of their own.
+pub fn put_line(out: &mut [u8], at: usize, word: &[u8], numbers: &[u32]) -> usize
+    requires { ⌜ at + (length (now word) + (11 * length (now numbers) + 1)) ≤ length (now out) ⌝ }
+    ensures { λ r. ⌜ Put (now (out .entry)) at (line (now (word .entry)) (now (numbers .entry))) r (now (out .exit)) × (r ≤ at + (length (now (word .entry)) + (11 * length (now (numbers .entry)) + 1))) ⌝ }
+{
+    let first = put_bytes(out, at, word);
+    let last = put_spaced(out, first, numbers);
+    put_byte(out, last, 10)
 }

@@ -1,0 +1,51 @@
+//! The program: `fit` and `ask` read a sheet on standard input, the others make their own.
+
+use second::{generate, simulate, text};
+use std::io::{self, Read};
+use std::process::ExitCode;
+
+const USAGE: &str = "usage: second fit
+       second ask QUESTION MACHINE START END
+       second sheets SEED COUNT
+       second simulate SEED COUNT";
+
+fn main() -> ExitCode {
+    // A word that is no text at all becomes one that is no number and no name.
+    let words = std::env::args_os().skip(1);
+    let words: Vec<String> = words.map(|w| w.to_string_lossy().into()).collect();
+    match answer(&words) {
+        Some(text) => {
+            print!("{text}");
+            ExitCode::SUCCESS
+        }
+        None => {
+            eprintln!("{USAGE}");
+            ExitCode::FAILURE
+        }
+    }
+}
+
+fn answer(words: &[String]) -> Option<String> {
+    let names: Vec<&str> = words.iter().map(String::as_str).collect();
+    match names[..] {
+        ["fit"] => Some(text::fit(&sheet())),
+        ["ask", ..] => Some(text::ask(&sheet(), &words[1..])),
+        ["sheets", seed, count] => Some(generate::statistics(
+            seed.parse().ok()?,
+            count.parse().ok()?,
+        )),
+        ["simulate", seed, count] => {
+            Some(simulate::report(seed.parse().ok()?, count.parse().ok()?))
+        }
+        _ => None,
+    }
+}
+
+/// The sheet on standard input, as much of it as is ever looked at.
+fn sheet() -> Vec<u8> {
+    let mut bytes = Vec::new();
+    let mut input = io::stdin().lock().take(text::MOST_READ as u64);
+    // What could be read before a failing input is the sheet.
+    let _ = input.read_to_end(&mut bytes);
+    bytes
+}
