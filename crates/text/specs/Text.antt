@@ -1,10 +1,11 @@
 -- Text as a list of ASCII characters.
-use Prim.Native.Nat.{ℕ, zero, suc, _+_, _/_, _%_}
+use Prim.Native.Nat.{ℕ, zero, suc, _+_, _-_, _*_, _/_, _%_}
 use Prim.Native.String.{String, [] as end, _∷_ as _then_}
 use Prim.Native.Char.{code}
-use mathlib.Core.Bool.{cond}
+use mathlib.Core.Bool.{cond, _&&_}
 use mathlib.Core.List.{List, [], _∷_, _++_}
-use lib.Dec.{ltb}
+use mathlib.Core.Option.{Option, none, some}
+use lib.Dec.{leb, ltb}
 
 -- the characters of a quoted text
 abbrev pub ascii : String → List ℕ
@@ -28,3 +29,15 @@ spaced (n ∷ ns) = 32 ∷ decimal n ++ spaced ns
 -- a word and numbers, as a line of their own
 abbrev pub line : List ℕ → List ℕ → List ℕ
 line word ns = word ++ (spaced ns ++ (10 ∷ []))
+
+-- the number that a word of decimal digits says, the digits so far being v; none for another character, or past 32 bits
+unfoldable pub readFrom : ℕ → List ℕ → Option ℕ
+readFrom v [] = some v
+readFrom v (c ∷ word) =
+    let next = 10 * v + (c - 48) in
+    cond (leb 48 c && leb c 57 && leb next 4294967295) (readFrom next word) none
+
+-- an empty word says none
+unfoldable pub readNumber : List ℕ → Option ℕ
+readNumber [] = none
+readNumber (c ∷ word) = readFrom 0 (c ∷ word)

@@ -4,8 +4,40 @@ ghost use mathlib.Core.Path.{_≡_};
 ghost use mathlib.Core.List.{[], _∷_};
 ghost use Prim.Native.Nat.{_+_, _*_, _≤_, _<_};
 ghost use lib.ListN.{length};
-ghost use Rattle.text.specs.Text.{decimal, spaced, line};
-ghost use Rattle.text.specs.Inside.{Put};
+ghost use Rattle.text.specs.Text.{decimal, spaced, line, readNumber};
+ghost use Rattle.text.specs.Inside.{Put, told};
+
+// What a word says that should be a number.
+pub enum Number {
+    Value(u32),
+    Malformed,
+}
+
+// Reads a word of decimal digits, at most 4,294,967,295.
+pub fn read_number(word: &[u8]) -> Number
+    ensures { λ r. ⌜ told r ≡ readNumber (now (word .entry)) ⌝ }
+{
+    if word.len() == 0 {
+        return Number::Malformed;
+    }
+    let mut value: u64 = 0;
+    let mut i = 0;
+    while i < word.len() {
+        let digit = number::read_byte(word, i) as u64;
+        if digit < 48 {
+            return Number::Malformed;
+        }
+        if 57 < digit {
+            return Number::Malformed;
+        }
+        value = 10 * value + (digit - 48);
+        if 4294967295 < value {
+            return Number::Malformed;
+        }
+        i += 1;
+    }
+    Number::Value(value as u32)
+}
 
 // One character.
 pub fn put_byte(out: &mut [u8], at: usize, byte: u8) -> usize
