@@ -167,3 +167,7 @@ module _ (b : List ℕ) where
             machine = λ k l. machine k (omega (arith, decode-count b));
             hyperperiod = leb-true (hyperperiod (decode b)) 1024 (unless-none _ (refusal 9 0 0) nine);
           }
+
+-- each machine of an accepted sheet keeps to its sizes
+pub machine-sizes : {b : List ℕ} → Accepted b → (i : ℕ) → i < machineCount b → MachineSizes (machineOf (decode b) i)
+machine-sizes a i known = a .sizes .machine i (omega (arith, a .machines))

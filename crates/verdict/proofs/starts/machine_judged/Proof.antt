@@ -1,0 +1,78 @@
+use Rattle.model.specs.Verdict.{gives, machineGives}
+use Rattle.verdict.specs.Inside.{found}
+use Rattle.sheet.specs.Format.{decode}
+use Rattle.model.proofs.Search.{Clear, clear-begin, clear-more, clear-found, clear-end}
+use borrow.Author.Needs.{needs}
+use native.Mathlib.Omega.{arith}
+use mathlib.Core.Path.{sym, _∙_, ap}
+use Prim.Native.Nat.{_≤_, _-_}
+use Rattle.verdict.proofs.starts.machine_judged.Statement.{statement}
+use Rattle.verdict.proofs.starts.machine_judged.Tie as tie
+
+abbrev Inv-loop : tie.InvT-loop
+Inv-loop sheet masks lowest machine h start₀ start = (start ≤ h) × Clear (gives (decode sheet) machine) start
+
+abbrev μ-loop : tie.MeasureT-loop
+μ-loop sheet masks lowest machine h start₀ start = h - start
+
+loop-holds : tie.Need-loop-holds Inv-loop μ-loop
+loop-holds c = (omega arith, clear-begin)
+
+start-judged-requires : tie.Need-start-judged-requires Inv-loop μ-loop
+start-judged-requires c κs = (c .before .before .before .before .before .pre .0, c .before .before .before .before .before .pre .1, c .loop-test .taken)
+
+enum-told : tie.Need-enum-told Inv-loop μ-loop
+enum-told c = search needs
+
+add-start : tie.Need-add-start Inv-loop μ-loop
+add-start c = omega arith
+
+loop-less : tie.Need-loop-less Inv-loop μ-loop
+loop-less c = omega arith
+
+loop-again : tie.Need-loop-again Inv-loop μ-loop
+loop-again c =
+    let turn = c .before .before .before in
+    (omega arith, clear-more (turn .before .loop .inv .1) (sym (c .before .before .start-judged .ensures) ∙ ap found (c .enum-told .given .1)))
+
+enum-told-2 : tie.Need-enum-told-2 Inv-loop μ-loop
+enum-told-2 c = search needs
+
+returns : tie.Need-returns Inv-loop μ-loop
+unfolding machineGives
+returns c =
+    let turn = c .before .before .before in
+    let some = ap found (c .enum-told2 .given .1) in
+    some ∙ sym (clear-found _ (turn .before .loop .inv .1) (omega (arith, turn .before .before .before .before .before .pre .0 .period)) (sym (c .before .before .start-judged .ensures) ∙ some))
+
+enum-told-3 : tie.Need-enum-told-3 Inv-loop μ-loop
+enum-told-3 c = search needs
+
+returns-2 : tie.Need-returns-2 Inv-loop μ-loop
+unfolding machineGives
+returns-2 c =
+    let turn = c .before .before .before in
+    let some = ap found (c .enum-told3 .given .1) in
+    some ∙ sym (clear-found _ (turn .before .loop .inv .1) (omega (arith, turn .before .before .before .before .before .pre .0 .period)) (sym (c .before .before .start-judged .ensures) ∙ some))
+
+returns-3 : tie.Need-returns-3 Inv-loop μ-loop
+unfolding machineGives
+returns-3 c = sym (clear-end _ (c .before .loop .inv .1) (omega (arith, c .before .before .before .before .before .pre .0 .period)))
+
+pub machine-judged-spec : {M : Type 1} → statement M
+machine-judged-spec =
+    tie.close
+    (tie.spec
+    Inv-loop
+    μ-loop
+    loop-holds
+    start-judged-requires
+    enum-told
+    add-start
+    loop-less
+    loop-again
+    enum-told-2
+    returns
+    enum-told-3
+    returns-2
+    returns-3)

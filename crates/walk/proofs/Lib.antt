@@ -1,0 +1,5 @@
+pub mod Digits
+pub mod Mask
+pub mod Read
+pub mod Row
+pub mod Front
