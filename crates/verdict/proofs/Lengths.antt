@@ -136,7 +136,7 @@ module _ {b masks lowest : List ℕ} {h : ℕ} (marked : Marked b masks lowest h
           here = tick-place (w .placed)
 
           quiet : (j : ℕ) → j ≤ i → getD masks (1024 * j + place) 0 ≡ 0
-          quiet j u = marked .lowered .at place j (omega (arith, walked-inside, marked .period)) (omega arith)
+          quiet j u = marked .lowered .at place walked-inside .before j (omega arith)
 
           line : (j : ℕ) → j ≤ i → LineAt (machineOf (decode b) j) s (n + 1) (lineOf (level .lines) j)
           line j u =

@@ -95,14 +95,24 @@ pub record Ticking (b masks : List ℕ) (place i n : ℕ) (level : Level) : Type
 pub record LevelMoved (b masks : List ℕ) (place i n : ℕ) (old new : Level) : Type 0 where
   pub on : (s : ℕ) → Place b masks place (s + n) → LevelAt b i s n old → LevelAt b i s (n + 1) new
 
--- word t of `lowest` is a machine number before which no machine has an instant at t
-pub record Lowest (b masks lowest : List ℕ) : Type 0 where
+-- no machine before machine n has an instant at t
+pub record Idle (masks : List ℕ) (t n : ℕ) : Type 0 where
+  pub before : (j : ℕ) → j < n → getD masks (1024 * j + t) 0 ≡ 0
+
+-- word t of `lowest` is such a machine, for the ticks below h
+pub record Lowest (h : ℕ) (masks lowest : List ℕ) : Type 0 where
   pub long : length lowest ≡ 1024
-  pub at : (t j : ℕ) → t < hyperperiod (decode b) → j < getD lowest t 0 → getD masks (1024 * j + t) 0 ≡ 0
+  pub at : (t : ℕ) → t < h → Idle masks t (getD lowest t 0)
+
+-- an accepted sheet with its number of machines and its hyperperiod
+pub record Counted (b : List ℕ) (machines h : ℕ) : Type 0 where
+  pub accepted : Accepted b
+  pub count : machines ≡ machineCount b
+  pub period : h ≡ hyperperiod (decode b)
 
 -- what a walk goes by: an accepted sheet with its masks, and its hyperperiod h
 pub record Marked (b masks lowest : List ℕ) (h : ℕ) : Type 0 where
   pub accepted : Accepted b
   pub masked : Masks b masks
-  pub lowered : Lowest b masks lowest
+  pub lowered : Lowest h masks lowest
   pub period : h ≡ hyperperiod (decode b)

@@ -1,8 +1,17 @@
 // The verdict: whether a sheet's machines fit, and if not, the first window that shows it.
 // Definitions: specs/Reply.antt, over the model's specs/Verdict.antt and Run.antt.
 mod lines;
+mod masks;
 mod starts;
 
+ghost use mathlib.Core.Path.{_≡_};
+ghost use Rattle.model.specs.Run.{Safe};
+ghost use Rattle.model.specs.Search.{firstOf};
+ghost use Rattle.model.specs.Verdict.{machineGives};
+ghost use Rattle.sheet.specs.Format.{machineCount, decode};
+ghost use Rattle.verdict.specs.Reply.{paper, verdictReply};
+ghost use Rattle.verdict.specs.Inside.{found, Counted};
+use sheet::Checked;
 use sheet::Refusal;
 
 // A window that fails: machine, start, length, and the demand bound there.
@@ -43,4 +52,37 @@ pub struct Level {
     pub row: [u32; 16],
     pub mask: u32,
     pub last: u32,
+}
+
+// Judges a sheet: refused under rules 1 to 9, or the verdict. Where it is Fits, no run of the sheet's
+// machines is ever late.
+pub fn judge(sheet: &[u8]) -> Verdict
+    ensures says { λ r. ⌜ paper r ≡ verdictReply (now (sheet .entry)) ⌝ }
+    ensures promises { λ r. ⌜ (r ≡ Verdict.Fits → Safe (decode (now (sheet .entry)))) ⌝ }
+{
+    let checked = sheet::check(sheet);
+    match checked {
+        Checked::Refused(refusal) => Verdict::Refused(refusal),
+        Checked::Accepted {
+            machines,
+            hyperperiod,
+        } => {
+            let given = walked(sheet, machines as usize, hyperperiod as usize);
+            match given {
+                Given::Nothing => Verdict::Fits,
+                Given::Late(window) => Verdict::Late(window),
+                Given::Open { machine, start } => Verdict::Open { machine, start },
+            }
+        }
+    }
+}
+
+// What the machines of an accepted sheet give.
+fn walked(sheet: &[u8], machines: usize, h: usize) -> Given
+    requires { ⌜ Counted (now sheet) machines h ⌝ }
+    ensures { λ r. ⌜ found r ≡ firstOf (machineGives (decode (now (sheet .entry)))) 0 (machineCount (now (sheet .entry))) ⌝ }
+{
+    let masks = masks::masks_of(sheet, machines, h);
+    let lowest = masks::lowest_of(&masks, machines, h);
+    starts::machines_judged(sheet, &masks, &lowest, machines, h)
 }

@@ -154,9 +154,11 @@ loop-less c = omega arith
 loop-again : tie.Need-loop-again Inv-loop μ-loop
 loop-again c =
     let join = c .before .before .before .before .before .before .before .before in
-    let head = join .before .before .before .loop .inv .1 in
-    (omega (arith, near join), walked-next (c .before .before .before .before .before .before .before .before .before .before .before .before .before .before .before .before .before .before .pre .0) (c .before .before .before .before .before .before .before .before .before .before .before .before .before .before .before .before .before .before .pre .1) (come join) (near join) (left join) (c .before .before .before .before .before .before .if2 .left) (head .roomy)
-    (c .before .before .before .before .before .slack-after .ensures) (head .placed) (c .before .before .before .before .before .before .before .place-after .ensures) (omega (arith, due (c .before), c .if4 .left)))
+    let head = join .before .before .before .loop .inv .1 in (
+      omega (arith, near join),
+      walked-next (c .before .before .before .before .before .before .before .before .before .before .before .before .before .before .before .before .before .before .pre .0) (c .before .before .before .before .before .before .before .before .before .before .before .before .before .before .before .before .before .before .pre .1) (come join) (near join) (left join) (c .before .before .before .before .before .before .if2 .left) (head .roomy)
+          (c .before .before .before .before .before .slack-after .ensures) (head .placed) (c .before .before .before .before .before .before .before .place-after .ensures) (omega (arith, due (c .before), c .if4 .left)),
+    )
 
 loop-less-2 : tie.Need-loop-less-2 Inv-loop μ-loop
 loop-less-2 c = omega arith
@@ -164,9 +166,11 @@ loop-less-2 c = omega arith
 loop-again-2 : tie.Need-loop-again-2 Inv-loop μ-loop
 loop-again-2 c =
     let join = c .before .before .before .before in
-    let head = join .before .before .before .loop .inv .1 in
-    (omega (arith, near join), walked-light (c .before .before .before .before .before .before .before .before .before .before .before .before .before .before .pre .0) (c .before .before .before .before .before .before .before .before .before .before .before .before .before .before .pre .1) (come join) (near join) (left join) (c .before .before .if2 .left) (head .roomy)
-    (c .before .slack-after .ensures) (head .placed) (c .before .before .before .place-after .ensures) (c .if3 .left))
+    let head = join .before .before .before .loop .inv .1 in (
+      omega (arith, near join),
+      walked-light (c .before .before .before .before .before .before .before .before .before .before .before .before .before .before .pre .0) (c .before .before .before .before .before .before .before .before .before .before .before .before .before .before .pre .1) (come join) (near join) (left join) (c .before .before .if2 .left) (head .roomy)
+          (c .before .slack-after .ensures) (head .placed) (c .before .before .before .place-after .ensures) (c .if3 .left),
+    )
 
 cast-t19 : tie.Need-cast-t19 Inv-loop μ-loop
 cast-t19 c = omega (arith, machines-few (c .before .before .before .before .before .before .before .before .pre .0) (c .before .before .before .before .before .before .before .before .pre .1))

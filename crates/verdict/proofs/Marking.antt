@@ -1,0 +1,98 @@
+-- Filling the masks: what a loop over the machines, or over the ticks, has done.
+-- Assumes nothing.
+use Prim.Native.Nat.{ℕ, _+_, _-_, _*_, _≤_, _<_}
+use mathlib.Core.Path.{_≡_, refl, sym, _∙_, ap}
+use mathlib.Core.List.{List, _++_}
+use mathlib.Core.Logic.{⊎-elim}
+use native.Mathlib.Omega.{arith}
+use native.Mathlib.Decide.{decLt, ℕ-discrete}
+use lib.ListN.{length, getD, set, take, drop, replicate, length-replicate, length-set, length-append, length-take, length-drop, List·getD-append}
+use lib.Seq.{getD-set-same, getD-set-other, getD-append-add, length-take-le, getD-take}
+use native.Mathlib.Nat.{zero-add}
+use borrow.Author.Count.{below-more}
+use borrow.Rule.Slice.PartMut.{putMid, postOf, same-len-mid}
+use Rattle.model.specs.Machine.{machineOf, hyperperiod}
+use Rattle.sheet.specs.Format.{machineCount, decode}
+use Rattle.walk.specs.Inside.{Marks, AllMarked}
+use Rattle.verdict.specs.Inside.{Masks, Idle, Lowest, Counted}
+
+pub idle-begin : {masks : List ℕ} {t : ℕ} → Idle masks t 0
+idle-begin = record { before = λ j l. absurd (omega arith) }
+
+pub idle-more : {masks : List ℕ} {t j : ℕ} → Idle masks t j → getD masks (1024 * j + t) 0 ≡ 0 → Idle masks t (j + 1)
+idle-more {masks} {t} {j} h e = record { before = below-more (λ (k : ℕ). getD masks (1024 * k + t) 0 ≡ 0) j (h .before) e }
+
+-- the masks of the machines before j are filled
+pub record Filled (b : List ℕ) (h j : ℕ) (masks : List ℕ) : Type 0 where
+  pub long : length masks ≡ 8192
+  pub at : (k t : ℕ) → k < j → t < h → Marks (machineOf (decode b) k) t (getD masks (1024 * k + t) 0)
+
+pub filled-begin : {b : List ℕ} {h : ℕ} → Filled b h 0 (replicate 8192 0)
+filled-begin = record { long = length-replicate {A = ℕ} 8192 0; at = λ k t l. absurd (omega arith) }
+
+module _ {b : List ℕ} {machines h : ℕ} (counted : Counted b machines h) where
+  pub machines-few : machines ≤ 8
+  machines-few = omega (arith, counted .count, counted .accepted .sizes .machines .1, counted .accepted .machines)
+
+  pub period-short : h ≤ 1024
+  period-short = omega (arith, counted .period, counted .accepted .hyperperiod .1)
+
+  -- machine j's part of the masks is filled, too
+  pub filled-more : {j : ℕ} {masks : List ℕ} (part : List ℕ) → Filled b h j masks → j < machines
+      → length part ≡ length (take (1024 * j + h - 1024 * j) (drop (1024 * j) masks)) → AllMarked (machineOf (decode b) j) 0 part
+      → Filled b h (j + 1) (putMid (1024 * j) (1024 * j + h - 1024 * j) masks part)
+  filled-more {j} {masks} part f l e m =
+      record {
+        long = same-len-mid (1024 * j) (1024 * j + h - 1024 * j) masks part e ∙ f .long;
+        at = λ k t u v.
+            elim (decLt k j) [
+              | yes w ↦ rw (earlier (1024 * k + t) (omega (arith, period-short))) (f .at k t w v)
+              | no w ↦ rw (let z : k ≡ j = omega arith in z, own t v) (rw zero-add at (m .at t (omega (arith, size))))
+            ];
+      }
+    where
+      head : length (take (1024 * j) masks) ≡ 1024 * j
+      head = length-take-le (1024 * j) masks (omega (arith, f .long, machines-few))
+
+      size : length part ≡ h
+      size =
+          e
+          ∙ length-take-le (1024 * j + h - 1024 * j) (drop (1024 * j) masks)
+          (rw (length-drop (1024 * j) masks, f .long) (omega (arith, machines-few, period-short)))
+          ∙ omega arith
+
+      after : List ℕ
+      after = part ++ postOf (1024 * j) (1024 * j + h - 1024 * j) masks
+
+      earlier : (i : ℕ) → i < 1024 * j → getD (take (1024 * j) masks ++ after) i 0 ≡ getD masks i 0
+      earlier i w = List·getD-append (take (1024 * j) masks) after 0 i (omega (arith, head)) ∙ getD-take (1024 * j) masks i 0 w
+
+      own : (t : ℕ) → t < h → getD (take (1024 * j) masks ++ after) (1024 * j + t) 0 ≡ getD part t 0
+      own t v =
+          ap (λ n. getD (take (1024 * j) masks ++ after) (n + t) 0) (sym head)
+          ∙ getD-append-add (take (1024 * j) masks) after t 0
+          ∙ List·getD-append part (postOf (1024 * j) (1024 * j + h - 1024 * j) masks) 0 t (omega (arith, size))
+
+  pub filled-end : {j : ℕ} {masks : List ℕ} → Filled b h j masks → machines ≤ j → Masks b masks
+  filled-end f l =
+      record { long = f .long; at = λ k t u v. f .at k t (omega (arith, counted .count)) (omega (arith, counted .period)) }
+
+-- the lowest machines of the ticks before t are known
+pub record Lowered (masks : List ℕ) (t : ℕ) (lowest : List ℕ) : Type 0 where
+  pub long : length lowest ≡ 1024
+  pub at : (u : ℕ) → u < t → Idle masks u (getD lowest u 0)
+
+pub lowered-begin : {masks : List ℕ} → Lowered masks 0 (replicate 1024 0)
+lowered-begin = record { long = length-replicate {A = ℕ} 1024 0; at = λ u l. absurd (omega arith) }
+
+pub lowered-more : {masks : List ℕ} {t : ℕ} {lowest : List ℕ} (n : ℕ) → Lowered masks t lowest → t < 1024 → Idle masks t n
+    → Lowered masks (t + 1) (set lowest t n)
+lowered-more {masks} {t} {lowest} n h l i =
+    record {
+      long = length-set lowest t n ∙ h .long;
+      at = λ u v.
+          elim (ℕ-discrete u t) [
+            | yes e ↦ rw (e, getD-set-same lowest t n 0 (omega (arith, h .long))) i
+            | no d ↦ rw (getD-set-other lowest t u n 0 d) (h .at u (omega arith))
+          ];
+    }
