@@ -30,7 +30,7 @@ room c =
     )
 
 loop-holds : tie.Need-loop-holds Inv-loop μ-loop
-loop-holds c = (omega arith, omega arith, spaced-begin _ _)
+loop-holds c = (omega arith, omega arith, spaced-begin _ _ (omega arith))
 
 put-byte-requires : tie.Need-put-byte-requires Inv-loop μ-loop
 put-byte-requires c κs = omega (arith, c .before .before .loop .inv .2 .size)
