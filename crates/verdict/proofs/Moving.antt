@@ -18,13 +18,13 @@ module _ {m : Machine} (sizes : MachineSizes m) where
   pub standing-ready : {mask : ℕ} {line : Line} → Standing m mask line → Ready m mask (line .row)
   standing-ready h = row-ready sizes (h .stands .row) (omega arith) (h .marks)
 
-  pub moved-tick : {mask : ℕ} {line : Line} {new : List ℕ} (top : ℕ) → Ticked m mask (line .row) new
-      → top ≡ most (m .states) (figure new) → Moved m mask line (record { row = new; top = top })
-  moved-tick {new = new} top ticked e =
+  pub moved-tick : {mask states : ℕ} {line : Line} {new : List ℕ} (top : ℕ) → Ticked m mask (line .row) new
+      → states ≡ m .states → top ≡ most states (figure new) → Moved m mask line (record { row = new; top = top })
+  moved-tick {new = new} top ticked e f =
       record {
         on = λ s n marks h.
             let row = row-ticked sizes (h .row) new marks ticked in
-            record { row = row; long = ticked .long; top = row-top sizes row e };
+            record { row = row; long = ticked .long; top = row-top sizes row e f };
       }
 
   -- a tick without an instant leaves the line as it is
@@ -33,5 +33,5 @@ module _ {m : Machine} (sizes : MachineSizes m) where
       record {
         on = λ s n marks h.
             let row = row-idle sizes (h .row) marks e in
-            record { row = row; long = h .long; top = h .top ∙ sym (row-top sizes (h .row) refl) ∙ row-top sizes row refl };
+            record { row = row; long = h .long; top = h .top ∙ sym (row-top sizes (h .row) refl refl) ∙ row-top sizes row refl refl };
       }

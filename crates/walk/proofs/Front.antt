@@ -1,7 +1,7 @@
 -- What the walk's functions give a loop over the ticks: the row, its bound, and the demand of each length.
 -- Assumes nothing.
-use Prim.Native.Nat.{ℕ, _+_, _-_, _≤_, _<_}
-use mathlib.Core.Path.{_≡_, sym, _∙_}
+use Prim.Native.Nat.{ℕ, _+_, _≤_, _<_}
+use mathlib.Core.Path.{_≡_, sym, _∙_, ap}
 use mathlib.Core.List.{List}
 use native.Mathlib.Omega.{arith}
 use lib.ListN.{replicate, getD-replicate}
@@ -25,7 +25,7 @@ row-zeros {m} sizes s =
 
 module _ {m : Machine} (sizes : MachineSizes m) {s n : ℕ} {row : List ℕ} (h : IsRow m (asked m) s n row) where
   -- a row is ready for a tick
-  pub row-ready : n ≤ 2048 → {t mask : ℕ} → Marks m t mask → Ready m mask row
+  pub row-ready : n ≤ 1000000 → {t mask : ℕ} → Marks m t mask → Ready m mask row
   row-ready l {t} g =
       record {
         tick = t;
@@ -36,7 +36,8 @@ module _ {m : Machine} (sizes : MachineSizes m) {s n : ℕ} {row : List ℕ} (h 
       low : (k : ℕ) → k < count m → cost m k ≤ 1024
       low k b = rw (cost-is m k) (sizes .action k b .time .1)
 
-  pub row-ticked : {mask : ℕ} (new : List ℕ) → Marks m (s + n) mask → Ticked m mask row new → IsRow m (asked m) s (n + 1) new
+  pub row-ticked : {mask : ℕ} (new : List ℕ) → Marks m (s + n) mask → Ticked m mask row new
+      → IsRow m (asked m) s (n + 1) new
   row-ticked new g moved = row-moved m (asked m) s (sizes-closed m sizes) n row new h (moved .moved (s + n) g)
 
   -- a tick without an instant leaves a row as it is
@@ -46,8 +47,8 @@ module _ {m : Machine} (sizes : MachineSizes m) {s n : ℕ} {row : List ℕ} (h 
       (record { at = λ q l. most-end most-begin rest-begin e (brings-idle m (figure row) q) (s + n) g })
 
   -- its largest figure is the request bound
-  pub row-top : {v : ℕ} → v ≡ most (m .states) (figure row) → v ≡ request m s n
-  row-top e = e ∙ row-request m s n row h (sizes-closed m sizes)
+  pub row-top : {states v : ℕ} → states ≡ m .states → v ≡ most states (figure row) → v ≡ request m s n
+  row-top e f = f ∙ ap (λ k. most k (figure row)) e ∙ row-request m s n row h (sizes-closed m sizes)
 
 -- the last instant, as a loop over the ticks keeps it
 module _ {m : Machine} {s : ℕ} where

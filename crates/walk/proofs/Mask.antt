@@ -20,7 +20,8 @@ use Rattle.model.proofs.Names.{instant?-law}
 use Rattle.model.proofs.Shift.{repeats-times}
 use Rattle.model.proofs.Most.{most-above, most-below}
 use Rattle.walk.specs.Inside.{Marks, AllMarked, WindowMarked}
-use Rattle.walk.proofs.Digits.{digits-cong, digits-zero, digits-some, Left, left-begin, left-more, left-next, left-one, left-other, left-none}
+use Rattle.walk.proofs.Digits.{digits-cong, digits-zero, digits-some}
+use Rattle.walk.proofs.Digits.{Left, left-begin, left-more, left-next, left-one, left-other, left-none}
 
 -- a mask of no action, and one of some
 pub marks-none : {m : Machine} {t : ℕ} → Marks m t 0 → (j : ℕ) → j < count m → Instant m j t → ⊥
@@ -38,7 +39,9 @@ marks-some {m} {t} h some =
 pub marks-remainder : {m : Machine} (h : ℕ) {t mask : ℕ} → Repeats m h → Marks m (t % h) mask → Marks m t mask
 marks-remainder {m} h {t} again g =
     record {
-      is = g .is ∙ digits-cong (λ k. instant? m k (t % h)) (λ k. instant? m k t) 0 (count m) (λ k l. same k (omega arith));
+      is =
+          g .is
+          ∙ digits-cong (λ k. instant? m k (t % h)) (λ k. instant? m k t) 0 (count m) (λ k l. same k (omega arith));
     }
   where
     same : (k : ℕ) → k < count m → instant? m k (t % h) ≡ instant? m k t

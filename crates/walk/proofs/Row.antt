@@ -19,7 +19,8 @@ use Rattle.model.specs.Inside.{figure, brings, dueThen}
 use Rattle.model.proofs.Tests.{leb-same}
 use Rattle.model.proofs.Names.{begins?-is, cost-is}
 use Rattle.walk.specs.Inside.{brought, pushed, dueOr, Ticked, DueWithin}
-use Rattle.walk.proofs.Mask.{Rest, rest-begin, rest-one, rest-other, rest-next, Most, most-begin, most-more, most-end}
+use Rattle.walk.proofs.Mask.{Rest, rest-begin, rest-one, rest-other, rest-next}
+use Rattle.walk.proofs.Mask.{Most, most-begin, most-more, most-end}
 
 -- an action raises a row at its sink alone
 module _ (a : Action) (old row : List ℕ) {sink v : ℕ} (e : sink ≡ a .sink) (f : v ≡ brought a old) where
@@ -125,8 +126,9 @@ pub record Ending (m : Machine) (mask : ℕ) (row : List ℕ) (within j left v :
   pub is : Most m mask (λ t. dueThen m t (t + within) (figure row)) (most (m .states) (figure row)) j v
 
 module _ {m : Machine} {mask : ℕ} {row : List ℕ} {within : ℕ} where
-  pub ending-begin : (v : ℕ) → v ≡ most (m .states) (figure row) → Ending m mask row within 0 mask v
-  ending-begin v e = record { rest = rest-begin; is = rw e most-begin }
+  pub ending-begin : {states v : ℕ} → states ≡ m .states → v ≡ most states (figure row)
+      → Ending m mask row within 0 mask v
+  ending-begin e f = record { rest = rest-begin; is = rw (f, e) most-begin }
 
   module _ {j left v : ℕ} (h : Ending m mask row within j left v) where
     pub ending-take : MachineSizes m → j < count m → left % 2 ≡ 1 → {a : Action} (u : ℕ) → a ≡ actionOf m j

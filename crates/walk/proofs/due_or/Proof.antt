@@ -11,7 +11,8 @@ deadline-requires c κs = search needs
 returns : tie.Need-returns
 returns c =
     let start = c .before .before .before .args in
-    due-late (actionAt (start .sheet .now) (start .at)) (start .row .now) _ _ (omega (arith, c .before .deadline .ensures))
+    due-late (actionAt (start .sheet .now) (start .at)) (start .row .now) _ _
+    (omega (arith, c .before .deadline .ensures))
 
 brought-requires : tie.Need-brought-requires
 brought-requires c κs = search needs

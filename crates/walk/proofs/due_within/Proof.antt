@@ -3,12 +3,9 @@ use Rattle.walk.proofs.Read.{entry-sizes, entry-inside, entry-action, e
 use Rattle.walk.proofs.Mask.{rest-more}
 use Rattle.walk.specs.Inside.{machineAt}
 use Rattle.model.specs.Machine.{count}
-use Rattle.model.specs.Reckon.{most}
-use Rattle.model.specs.Inside.{figure}
 use lib.ListN.{length}
-use Prim.Native.Nat.{ℕ, _+_, _*_, _≤_, _<_}
+use Prim.Native.Nat.{_+_, _*_, _≤_, _<_}
 use mathlib.Core.Logic.{⊎-elim}
-use mathlib.Core.Path.{_∙_, ap}
 use native.Mathlib.Omega.{arith}
 use Rattle.walk.proofs.due_within.Statement.{statement}
 use Rattle.walk.proofs.due_within.Tie as tie
@@ -23,7 +20,8 @@ abbrev μ-loop : tie.MeasureT-loop
 known : (c : tie.In-loop Inv-loop μ-loop)
     → let start = c .before .before .before .before .args in
     c .before .loop .j < count (machineAt (start .sheet .now) (start .entry))
-known c = rest-more (c .before .loop .inv .rest) (c .before .before .before .before .pre .1 .marks) (c .loop-test .taken)
+known c =
+    rest-more (c .before .loop .inv .rest) (c .before .before .before .before .pre .1 .marks) (c .loop-test .taken)
 
 inside : (c : tie.In-loop Inv-loop μ-loop)
     → let start = c .before .before .before .before .args in
@@ -34,9 +32,7 @@ top-requires : tie.Need-top-requires Inv-loop μ-loop
 top-requires c κs = omega (arith, c .before .pre .0 .states, entry-sizes (c .before .pre .0) .states .1)
 
 loop-holds : tie.Need-loop-holds Inv-loop μ-loop
-loop-holds c =
-    let start = c .before .before in
-    ending-begin _ (c .top .ensures ∙ ap (λ (n : ℕ). most n (figure (start .args .row .now))) (start .pre .0 .states))
+loop-holds c = ending-begin (c .before .before .pre .0 .states) (c .top .ensures)
 
 mul-due-or : tie.Need-mul-due-or Inv-loop μ-loop
 mul-due-or c = omega (arith, inside (c .before))
@@ -63,7 +59,8 @@ loop-again c =
     let entry = turn .before .before .before .before .pre .0 in
     ⊎-elim
     (λ w.
-    rw (w .3) (ending-take inv (entry-sizes entry) (known turn) (w .0 .taken) _ (entry-action entry (known turn)) (w .2 .ensures)))
+    rw (w .3)
+    (ending-take inv (entry-sizes entry) (known turn) (w .0 .taken) _ (entry-action entry (known turn)) (w .2 .ensures)))
     (λ w. rw (w .1) (ending-skip inv (known turn) (w .0 .left)))
     (c .if1 .came)
 

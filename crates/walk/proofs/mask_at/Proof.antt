@@ -10,7 +10,8 @@ use Rattle.walk.proofs.mask_at.Statement.{statement}
 use Rattle.walk.proofs.mask_at.Tie as tie
 
 abbrev Inv-loop : tie.InvT-loop
-Inv-loop sheet entry t mask₀ j₀ mask j = Left (λ k. instant? (machineAt sheet entry) k t) (count (machineAt sheet entry)) j mask
+Inv-loop sheet entry t mask₀ j₀ mask j =
+    Left (λ k. instant? (machineAt sheet entry) k t) (count (machineAt sheet entry)) j mask
 
 abbrev μ-loop : tie.MeasureT-loop
 μ-loop sheet entry t mask₀ j₀ mask j = j
@@ -22,7 +23,8 @@ known : (c : tie.In-loop Inv-loop μ-loop)
 known c = omega (arith, c .before .loop .inv .early)
 
 room : (c : tie.In-loop Inv-loop μ-loop) → c .before .loop .mask < 2 ^ 31
-room c = left-room (entry-sizes (c .before .before .before .pre) .actions .1) (c .loop-test .taken) (c .before .loop .inv)
+room c =
+    left-room (entry-sizes (c .before .before .before .pre) .actions .1) (c .loop-test .taken) (c .before .loop .inv)
 
 loop-holds : tie.Need-loop-holds Inv-loop μ-loop
 loop-holds c = rw (c .before .pre .actions) left-end

@@ -25,14 +25,14 @@ element-write-row c = search needs
 returns : tie.Need-returns
 returns c =
     let start = c .before .before .before .before .before .args in
-    pushed-more (actionAt (start .sheet .now) (start .at)) (start .old .now) (start .row .now) (c .before .before .before .sink .ensures)
-    (c .before .before .brought .ensures) (c .if1 .taken)
+    pushed-more (actionAt (start .sheet .now) (start .at)) (start .old .now) (start .row .now)
+    (c .before .before .before .sink .ensures) (c .before .before .brought .ensures) (c .if1 .taken)
 
 returns-2 : tie.Need-returns-2
 returns-2 c =
     let start = c .before .before .before .before .before .args in
-    pushed-same (actionAt (start .sheet .now) (start .at)) (start .old .now) (start .row .now) (c .before .before .before .sink .ensures)
-    (c .before .before .brought .ensures) (c .if1 .left)
+    pushed-same (actionAt (start .sheet .now) (start .at)) (start .old .now) (start .row .now)
+    (c .before .before .before .sink .ensures) (c .before .before .brought .ensures) (c .if1 .left)
 
 pub push-spec : {M : Type 1} → statement M
 push-spec =

@@ -56,7 +56,8 @@ loop-again c =
     let entry = turn .before .before .before .pre .0 in
     ⊎-elim
     (λ w.
-    rw (w .5) (ticking-push inv (entry-sizes entry) (known turn) (w .0 .taken) _ (entry-action entry (known turn)) (w .4 .ensures)))
+    rw (w .5)
+    (ticking-push inv (entry-sizes entry) (known turn) (w .0 .taken) _ (entry-action entry (known turn)) (w .4 .ensures)))
     (λ w. rw (w .1) (ticking-skip inv (known turn) (w .0 .left)))
     (c .if1 .came)
 

@@ -1,9 +1,5 @@
 use Rattle.walk.proofs.Read.{entry-sizes}
-use Rattle.model.specs.Inside.{figure}
-use Rattle.model.specs.Reckon.{most}
-use Prim.Native.Nat.{ℕ}
 use Rattle.verdict.proofs.Moving.{standing-ready, moved-tick, moved-not}
-use mathlib.Core.Path.{_≡_, sym, _∙_, ap}
 use native.Mathlib.Omega.{arith}
 use Rattle.sheet.proofs.Accepted.{machine-sizes}
 use borrow.Author.Needs.{needs}
@@ -33,9 +29,8 @@ returns-2 : tie.Need-returns-2
 returns-2 c =
     let start = c .before .before .before .before .before .before .before in
     let entry = c .before .before .before .before .entry-of .ensures in
-    let row = c .before .before .tick .result in
     moved-tick (machine-sizes (start .pre .0) _ (start .pre .1)) _ (rw (entry .0) at (c .before .before .tick .ensures))
-    (c .top .ensures ∙ ap (λ (n : ℕ). most n (figure row)) (rw (entry .0) at (entry .1 .states)))
+    (rw (entry .0) at (entry .1 .states)) (c .top .ensures)
 
 pub line-moved-spec : {M : Type 1} → statement M
 line-moved-spec =

@@ -1,0 +1,67 @@
+-- The replies of `request` and `demand`: what they are where the question is proper or refused, and that no second
+-- result satisfies a contract.
+-- Assumes nothing.
+use Prim.Native.Nat.{ℕ, _+_, _-_}
+use mathlib.Core.Path.{_≡_, sym, _∙_, ap}
+use mathlib.Core.List.{List}
+use mathlib.Core.Option.{Option, none, some}
+use native.Mathlib.Omega.{arith}
+use Rattle.model.specs.Machine.{machineOf}
+use Rattle.model.specs.Legal.{IsRequestBound, IsDemandBound}
+use Rattle.model.specs.Reckon.{request, demand}
+use Rattle.model.proofs.Bounds.{request-is, demand-is}
+use Rattle.sheet.specs.declared.Refusal.{Refusal}
+use Rattle.sheet.specs.Format.{decode}
+use Rattle.sheet.specs.Reply.{Reply, refused}
+use Rattle.sheet.specs.Check.{_otherwise_}
+use Rattle.window.specs.declared.Answer.{Answer}
+use Rattle.window.specs.declared.Answer.the-variants.{Value, Refused}
+use Rattle.window.specs.Window.{questionRefusal, paper}
+use Rattle.window.proofs.Asked.{proper}
+use Rattle.bounds.specs.Bounds.{requestReply, demandReply}
+use Rattle.bounds.specs.Inside.{Asks}
+
+-- the refusal, or the answer where there is none
+pub otherwise-refused : {x : Option Refusal} {r : Refusal} (reply : Reply) → x ≡ some r → refused r ≡ x otherwise reply
+otherwise-refused reply e = sym (ap (λ y. y otherwise reply) e)
+
+pub otherwise-answered : {x : Option Refusal} (reply : Reply) → x ≡ none → reply ≡ x otherwise reply
+otherwise-answered reply e = sym (ap (λ y. y otherwise reply) e)
+
+-- a question that is not refused is proper
+module _ (b : List ℕ) (i s f : ℕ) (kept : questionRefusal b i s f ≡ none) where
+  pub question-asks : (n : ℕ) → s + n ≡ f → Asks b i s n
+  question-asks n e =
+      let p = proper b i s f kept in
+      record { accepted = p .accepted; known = p .known; short = omega arith; near = omega arith }
+
+  between : s + (f - s) ≡ f
+  between = omega (arith, proper b i s f kept .forward)
+
+  pub window-asks : Asks b i s (f - s)
+  window-asks = question-asks (f - s) between
+
+  pub request-answer : {v : ℕ} → v ≡ request (machineOf (decode b) i) s (f - s)
+      → (paper (Value v) ≡ requestReply b i s f) × IsRequestBound (machineOf (decode b) i) s f v
+  request-answer e = rw e (otherwise-answered _ kept, request-is (machineOf (decode b) i) s (f - s) f between)
+
+  pub demand-answer : {v : ℕ} → v ≡ demand (machineOf (decode b) i) s (f - s)
+      → (paper (Value v) ≡ demandReply b i s f) × IsDemandBound (machineOf (decode b) i) s f v
+  demand-answer e = rw e (otherwise-answered _ kept, demand-is (machineOf (decode b) i) s (f - s) f between)
+
+-- no second result
+paper-injective : (r q : Answer) → paper r ≡ paper q → r ≡ q
+paper-injective (Value v) (Value u) e = cc
+paper-injective (Value v) (Refused q) e = absurd (let z : _≡_ {A = ℕ} 0 1 = cc in omega arith)
+paper-injective (Refused r) (Value u) e = absurd (let z : _≡_ {A = ℕ} 0 1 = cc in omega arith)
+paper-injective (Refused r) (Refused q) e = cc
+
+pub answer-unique : {reply : Reply} (r q : Answer) → paper r ≡ reply → paper q ≡ reply → r ≡ q
+answer-unique r q e g = paper-injective r q (e ∙ sym g)
+
+module _ (b : List ℕ) (i s f : ℕ) (r q : Answer) where
+  pub request-unique : paper r ≡ requestReply b i s f → paper q ≡ requestReply b i s f → r ≡ q
+  request-unique = answer-unique r q
+
+  pub demand-unique : paper r ≡ demandReply b i s f → paper q ≡ demandReply b i s f → r ≡ q
+  demand-unique = answer-unique r q

@@ -1,0 +1,73 @@
+-- The reply of `table` and the lent words afterwards: what they are where the call is refused and where the table is
+-- filled, and that no second result and no second memory satisfies the contract.
+-- Assumes nothing.
+use Prim.Native.Nat.{ℕ, _+_, _≤_, _<_}
+use mathlib.Core.Path.{_≡_, refl, sym, _∙_, ap}
+use mathlib.Core.List.{List}
+use mathlib.Core.Option.{none, some}
+use native.Mathlib.Omega.{arith}
+use lib.ListN.{length}
+use borrow.Author.Tests.{le-leb, lt-leb}
+use Rattle.model.specs.Machine.{Machine, machineOf}
+use Rattle.model.specs.Reckon.{request}
+use Rattle.model.proofs.Bounds.{request-is}
+use Rattle.sheet.specs.declared.Refusal.{Refusal}
+use Rattle.sheet.specs.Format.{decode}
+use Rattle.sheet.specs.Reply.{refusal}
+use Rattle.sheet.specs.Rules.{unless}
+use Rattle.sheet.proofs.First.{orElse-found, orElse-clear}
+use Rattle.window.specs.Window.{questionRefusal}
+use Rattle.bounds.specs.declared.Tabled.{Tabled}
+use Rattle.bounds.specs.declared.Tabled.the-variants.{Filled, Refused}
+use Rattle.bounds.specs.Table.{tableRefusal, tableReply, withTable, unlessRefused, tableWords, paper, HoldsBounds}
+use Rattle.bounds.proofs.Answer.{otherwise-refused, otherwise-answered}
+use Rattle.bounds.proofs.Filling.{listed-first}
+
+module _ (b : List ℕ) (i s n lent : ℕ) where
+  pub refusal-question : {r : Refusal} → questionRefusal b i s (s + n) ≡ some r → tableRefusal b i s n lent ≡ some r
+  unfolding tableRefusal
+  refusal-question e = orElse-found _ e
+
+  pub refusal-short : questionRefusal b i s (s + n) ≡ none → lent ≤ n
+      → tableRefusal b i s n lent ≡ some (refusal 12 0 0)
+  unfolding tableRefusal
+  refusal-short e l =
+      orElse-clear _ e ∙ ap (λ t. unless t (refusal 12 0 0)) (lt-leb (n + 1) lent (omega arith))
+
+  pub refusal-none : questionRefusal b i s (s + n) ≡ none → n < lent → tableRefusal b i s n lent ≡ none
+  unfolding tableRefusal
+  refusal-none e l = orElse-clear _ e ∙ ap (λ t. unless t (refusal 12 0 0)) (le-leb (n + 1) lent (omega arith))
+
+-- what the contract says: the reply, the words afterwards, and that they are bounds
+abbrev Meets : List ℕ → ℕ → ℕ → ℕ → List ℕ → List ℕ → Tabled → Type 0
+Meets b i s n words after r =
+    (paper r ≡ tableReply b i s n words)
+    × ((after ≡ tableWords b i s n words) × HoldsBounds (machineOf (decode b) i) s n after r)
+
+module _ (b : List ℕ) (i s n : ℕ) (words : List ℕ) where
+  pub table-refused : {r : Refusal} → tableRefusal b i s n (length words) ≡ some r
+      → Meets b i s n words words (Refused r)
+  table-refused e =
+      (otherwise-refused _ e, (sym (ap (λ x. unlessRefused x (withTable b i s n words) words) e), tt))
+
+  pub table-filled : (after : List ℕ) → tableRefusal b i s n (length words) ≡ none → after ≡ withTable b i s n words
+      → Meets b i s n words after Filled
+  table-filled after e written = (otherwise-answered _ e, (rw e written, bound))
+    where
+      m : Machine
+      m = machineOf (decode b) i
+
+      bound : HoldsBounds m s n after Filled
+      bound k l = rw (written, listed-first (request m s) (n + 1) _ k (omega arith)) (request-is m s k (s + k) refl)
+
+-- no second result, and no second memory
+paper-injective : (r q : Tabled) → paper r ≡ paper q → r ≡ q
+paper-injective Filled Filled e = refl
+paper-injective Filled (Refused q) e = absurd (let z : _≡_ {A = ℕ} 0 1 = cc in omega arith)
+paper-injective (Refused r) Filled e = absurd (let z : _≡_ {A = ℕ} 0 1 = cc in omega arith)
+paper-injective (Refused r) (Refused q) e = cc
+
+pub table-unique : (b : List ℕ) (i s n : ℕ) (words : List ℕ) (r q : Tabled) (after other : List ℕ)
+    → paper r ≡ tableReply b i s n words → paper q ≡ tableReply b i s n words
+    → after ≡ tableWords b i s n words → other ≡ tableWords b i s n words → (r ≡ q) × (after ≡ other)
+table-unique b i s n words r q after other e g h k = (paper-injective r q (e ∙ sym g), h ∙ sym k)

@@ -1,0 +1,63 @@
+use Prim.Native.Nat.{_+_}
+use mathlib.Core.Path.{_≡_, refl, sym, _∙_, ap}
+use mathlib.Core.Option.{none}
+use native.Mathlib.Omega.{arith}
+use Rattle.sheet.specs.Inside.{found}
+use Rattle.window.specs.Window.{questionRefusal}
+use Rattle.bounds.proofs.Answer.{question-asks}
+use Rattle.bounds.proofs.Words.{refusal-question, refusal-short, refusal-none, table-refused, table-filled}
+use borrow.Author.Needs.{needs}
+use Rattle.bounds.proofs.table.Statement.{statement}
+use Rattle.bounds.proofs.table.Tie as tie
+
+-- the question is proper
+kept : (c : tie.After-enum-told)
+    → let start = c .before .before .before .before .before .args in
+    questionRefusal (start .sheet .now) (start .machine) (start .from) (start .from + start .length) ≡ none
+kept c = sym (c .before .before .question .ensures) ∙ ap found (c .enum-told .given .1)
+
+add-question : tie.Need-add-question
+add-question c = search needs
+
+question-requires : tie.Need-question-requires
+question-requires c κs = search needs
+
+enum-known-rule : tie.Need-enum-known-rule
+enum-known-rule c = search needs
+
+returns : tie.Need-returns
+returns c =
+    let broken = ap found (c .before .rule .given .1) in
+    table-refused _ _ _ _ _ (refusal-question _ _ _ _ _ (sym (c .before .before .before .question .ensures) ∙ broken))
+
+enum-told : tie.Need-enum-told
+enum-told c = search needs
+
+returns-2 : tie.Need-returns-2
+returns-2 c = table-refused _ _ _ _ _ (refusal-short _ _ _ _ _ (kept (c .before)) (c .if1 .taken))
+
+fill-requires : tie.Need-fill-requires
+fill-requires c κs = (question-asks _ _ _ _ (kept (c .before .before)) _ refl, omega (arith, c .before .if1 .left))
+
+same-length : tie.Need-same-length
+same-length c = search needs
+
+returns-3 : tie.Need-returns-3
+returns-3 c =
+    let fits = c .before .before .before .before in
+    table-filled _ _ _ _ _ _ (refusal-none _ _ _ _ _ (kept (fits .before)) (fits .if1 .left))
+    (c .before .before .fill .ensures)
+
+pub table-spec : {M : Type 1} → statement M
+table-spec =
+    tie.close
+    (tie.spec
+    add-question
+    question-requires
+    enum-known-rule
+    returns
+    enum-told
+    returns-2
+    fill-requires
+    same-length
+    returns-3)

@@ -1,0 +1,37 @@
+use Rattle.report.proofs.Fitting.{whole-value, whole-never}
+use Rattle.sheet.proofs.Answer.{not-refused}
+use native.Mathlib.Omega.{arith}
+use borrow.Author.Needs.{needs}
+use Rattle.report.proofs.fits.whole_request.Statement.{statement}
+use Rattle.report.proofs.fits.whole_request.Tie as tie
+
+cast-request : tie.Need-cast-request
+cast-request c = omega (arith, c .before .pre .1, not-refused _ (c .before .pre .0 .admitted) .ranged .filled .entered .laid .machines)
+
+request-requires : tie.Need-request-requires
+request-requires c κs = search needs
+
+enum-known-answer : tie.Need-enum-known-answer
+enum-known-answer c = search needs
+
+enum-told : tie.Need-enum-told
+enum-told c = search needs
+
+returns : tie.Need-returns
+returns c =
+
+    let asked = c .before .before .before in
+    let start = asked .before .before in
+    whole-value (start .pre .0) (start .pre .1) (asked .request .ensures .0) (c .before .answer .given .1)
+
+returns-2 : tie.Need-returns-2
+returns-2 c =
+
+    let asked = c .before .before in
+    let start = asked .before .before in
+    whole-never (start .pre .0) (start .pre .1) (asked .request .ensures .0) (c .enum-told .given .1)
+
+pub whole-request-spec : {M : Type 1} → statement M
+whole-request-spec =
+    tie.close
+    (tie.spec cast-request request-requires enum-known-answer enum-told returns returns-2)
