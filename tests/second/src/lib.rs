@@ -8,11 +8,12 @@
 //! - `bounds`: the five questions, with refusals 10, 11, 14 and 12; `question`: one as a value.
 //! - `verdict`: the verdict in its own words, then two walks that give the same.
 //! - `text`: what the programs print.
-//! - `random`, `generate`: sheets and questions to compare programs with.
+//! - `random`, `generate`: sheets and questions to compare programs with; `compare` does it.
 //! - `run`, `simulate`: runs of a sheet, to see whether one is late.
 
 pub mod back;
 pub mod bounds;
+pub mod compare;
 pub mod critical;
 pub mod generate;
 pub mod legal;

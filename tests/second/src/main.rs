@@ -1,11 +1,12 @@
 //! The program: `fit` and `ask` read a sheet on standard input, the others make their own.
 
-use second::{generate, simulate, text};
+use second::{compare, generate, simulate, text};
 use std::io::{self, Read};
 use std::process::ExitCode;
 
 const USAGE: &str = "usage: second fit
        second ask QUESTION MACHINE START END
+       second compare PROGRAM SEED COUNT
        second sheets SEED COUNT
        second simulate SEED COUNT";
 
@@ -14,9 +15,13 @@ fn main() -> ExitCode {
     let words = std::env::args_os().skip(1);
     let words: Vec<String> = words.map(|w| w.to_string_lossy().into()).collect();
     match answer(&words) {
-        Some(text) => {
+        Some(Ok(text)) => {
             print!("{text}");
             ExitCode::SUCCESS
+        }
+        Some(Err(difference)) => {
+            eprintln!("{difference}");
+            ExitCode::FAILURE
         }
         None => {
             eprintln!("{USAGE}");
@@ -25,18 +30,24 @@ fn main() -> ExitCode {
     }
 }
 
-fn answer(words: &[String]) -> Option<String> {
+fn answer(words: &[String]) -> Option<Result<String, String>> {
     let names: Vec<&str> = words.iter().map(String::as_str).collect();
     match names[..] {
-        ["fit"] => Some(text::fit(&sheet())),
-        ["ask", ..] => Some(text::ask(&sheet(), &words[1..])),
-        ["sheets", seed, count] => Some(generate::statistics(
+        ["fit"] => Some(Ok(text::fit(&sheet()))),
+        ["ask", ..] => Some(Ok(text::ask(&sheet(), &words[1..]))),
+        ["compare", program, seed, count] => Some(compare::fit(
+            program,
             seed.parse().ok()?,
             count.parse().ok()?,
         )),
-        ["simulate", seed, count] => {
-            Some(simulate::report(seed.parse().ok()?, count.parse().ok()?))
-        }
+        ["sheets", seed, count] => Some(Ok(generate::statistics(
+            seed.parse().ok()?,
+            count.parse().ok()?,
+        ))),
+        ["simulate", seed, count] => Some(Ok(simulate::report(
+            seed.parse().ok()?,
+            count.parse().ok()?,
+        ))),
         _ => None,
     }
 }
