@@ -11,9 +11,9 @@ ghost use Rattle.sheet.specs.Check.{refusalOf};
 ghost use Rattle.text.specs.Inside.{Put};
 ghost use Rattle.report.specs.Fit.{refusedLine, machineLine, machineLines, verdictLine, acceptedText, fitText, printedLength, printed};
 ghost use Rattle.report.specs.Inside.{Admitted};
-use sheet::read;
 use sheet::Checked;
 use sheet::Refusal;
+use sheet::read;
 use verdict::Verdict;
 use window::Answer;
 

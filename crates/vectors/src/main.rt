@@ -1,16 +1,19 @@
 // Runs document 01's further numbers and the wrong answers that the contracts rule out. Each line has
 // what is tried and the reply; the file `stdout` beside src/ has what they must be.
-mod draft;
-
-use crate::draft::Draft;
-use crate::draft::action;
-use crate::draft::byte;
-use crate::draft::cut;
-use crate::draft::empty;
-use crate::draft::entry;
-use crate::draft::trailer;
-use crate::draft::turn;
-use crate::draft::with_byte;
+use draft::Draft;
+use draft::action;
+use draft::byte;
+use draft::cut;
+use draft::empty;
+use draft::entry;
+use draft::one;
+use draft::pair;
+use draft::pair_with;
+use draft::trailer;
+use draft::turn;
+use draft::two;
+use draft::two_actions;
+use draft::with_byte;
 use libc::STDOUT_FILENO;
 use sheet::Checked;
 
@@ -49,39 +52,6 @@ fn check(what: &[u8], draft: Draft) {
         }
     }
     text(b"\n");
-}
-
-// PAIR with another execution time in machine 0 and another deadline in machine 1's action 0.
-fn pair_with(time: u32, deadline: u32) -> Draft {
-    let a = turn(empty(), 40, time, 40);
-    let b = action(a, 0, 1, 40, 5, deadline);
-    let c = action(b, 2, 0, 100, 6, 20);
-    let d = action(c, 1, 2, 40, 2, 20);
-    let e = action(d, 1, 2, 100, 3, 20);
-    let f = entry(entry(e, 1, 0, 1, 0), 3, 0, 4, 8);
-    trailer(f, 40, 2)
-}
-
-fn pair() -> Draft {
-    pair_with(14, 20)
-}
-
-// One machine with one action.
-fn one(states: u32, initial: u32, sink: u32, period: u32, time: u32, deadline: u32) -> Draft {
-    let a = action(empty(), 0, sink, period, time, deadline);
-    trailer(entry(a, states, initial, 1, 0), 8, 1)
-}
-
-// Two machines of one state and one action each.
-fn two(first: Draft, period: u32, time: u32, deadline: u32) -> Draft {
-    let a = turn(first, period, time, deadline);
-    trailer(entry(entry(a, 1, 0, 1, 0), 1, 0, 1, 8), 16, 2)
-}
-
-// One machine of one state and two actions.
-fn two_actions(first: Draft, period: u32, time: u32, deadline: u32) -> Draft {
-    let a = turn(first, period, time, deadline);
-    trailer(entry(a, 1, 0, 2, 0), 16, 1)
 }
 
 fn pairs() {

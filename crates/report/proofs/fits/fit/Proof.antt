@@ -9,7 +9,6 @@ use Rattle.report.proofs.fits.fit.Tie as tie
 
 returns : tie.Need-returns
 returns c =
-
     let args = c .before .before .before .args in
     unprinted 512 (fitText (now (args .sheet))) (now (args .out)) (c .if1 .taken)
 
@@ -30,7 +29,6 @@ cast-put-accepted c = search needs
 
 put-accepted-requires : tie.Need-put-accepted-requires
 put-accepted-requires c κs =
-
     let known = c .before .before in
     let check = known .before .before in
     let (kept, count, period) = accepted-so _ (check .check .ensures) (known .checked2 .given .1) in
@@ -41,7 +39,6 @@ same-length c = search needs
 
 returns-2 : tie.Need-returns-2
 returns-2 c =
-
     let put = c .before .before in
     let known = put .before .before .before in
     let check = known .before .before in
@@ -54,7 +51,6 @@ same-length-2 c = search needs
 
 returns-3 : tie.Need-returns-3
 returns-3 c =
-
     let put = c .before .before in
     let known = put .before .before .before in
     let check = known .before .before in

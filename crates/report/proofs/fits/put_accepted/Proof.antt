@@ -17,7 +17,6 @@ put-line-requires c κs = search needs
 
 put-machines-requires : tie.Need-put-machines-requires
 put-machines-requires c κs =
-
     let line = c .before .before .before in
     let pre = line .before .before .before .before .before .before .pre in
     let few = not-refused _ (pre .0 .admitted) .ranged .filled .entered .laid .machines in
@@ -25,14 +24,21 @@ put-machines-requires c κs =
 
 put-verdict-requires : tie.Need-put-verdict-requires
 put-verdict-requires c κs =
-
     let lines = c .before .before .before in
     let line = lines .before .before .before .before in
     let pre = line .before .before .before .before .before .before .pre in
     let few = not-refused _ (pre .0 .admitted) .ranged .filled .entered .laid .machines in (
       pre .0 .admitted,
-      omega (arith, pre .1, few, pre .2, line .put-line .ensures .0 .size, line .put-line .ensures .1,
-        lines .put-machines .ensures .0 .size, lines .put-machines .ensures .1),
+      omega (
+        arith,
+        pre .1,
+        few,
+        pre .2,
+        line .put-line .ensures .0 .size,
+        line .put-line .ensures .1,
+        lines .put-machines .ensures .0 .size,
+        lines .put-machines .ensures .1,
+      ),
     )
 
 same-length : tie.Need-same-length
@@ -40,7 +46,6 @@ same-length c = search needs
 
 returns : tie.Need-returns
 returns c =
-
     let last = c .before .before in
     let lines = last .before .before .before .before in
     let line = lines .before .before .before .before in

@@ -9,7 +9,6 @@ states-requires c κs = let start = c .before .before in (entered (start .pre .0
 
 cast-states : tie.Need-cast-states
 cast-states c =
-
     let start = c .before .before .before in
     omega (arith, c .states .ensures, entered (start .pre .0) (start .pre .1) .states _ (start .pre .1))
 
@@ -18,7 +17,6 @@ action-count-requires c κs = let start = c .before .before .before in (entered 
 
 cast-actions : tie.Need-cast-actions
 cast-actions c =
-
     let start = c .before .before .before .before in
     omega (arith, c .action-count .ensures, entered (start .pre .0) (start .pre .1) .actions _ (start .pre .1))
 
@@ -27,7 +25,6 @@ whole-request-requires c κs = search needs
 
 cast-t12 : tie.Need-cast-t12
 cast-t12 c =
-
     let start = c .before .before .before .before .before in
     omega (arith, start .pre .1, entered (start .pre .0) (start .pre .1) .laid .machines)
 
@@ -45,12 +42,11 @@ same-length c = search needs
 
 returns : tie.Need-returns
 returns c =
-
     let put = c .before .before in
     let bound = put .before .before .before .before in
     let start = bound .before .before .before .before .before in (
       machine-put (start .args .sheet .now) (start .args .machine) (bound .before .before .states .ensures)
-      (bound .before .action-count .ensures) (bound .whole-request .ensures) (put .put-line .ensures .0),
+          (bound .before .action-count .ensures) (bound .whole-request .ensures) (put .put-line .ensures .0),
       put .put-line .ensures .1,
     )
 

@@ -12,7 +12,6 @@ use Rattle.report.proofs.fits.put_machines.Tie as tie
 
 abbrev Inv-loop : tie.InvT-loop
 Inv-loop out₀ at sheet machines h next₀ k₀ out next k =
-
     (k ≤ machines) × (next ≤ at + 46 * k) × Put out₀ at (machineLines (decode sheet) k) next out
 
 abbrev μ-loop : tie.MeasureT-loop
@@ -20,13 +19,11 @@ abbrev μ-loop : tie.MeasureT-loop
 
 loop-holds : tie.Need-loop-holds Inv-loop μ-loop
 loop-holds c =
-
     let start = c .before .before in
     (omega arith, omega arith, machines-begin (now (start .args .sheet)) (now (start .args .out)) (start .args .at) (omega (arith, start .pre .2)))
 
 put-machine-requires : tie.Need-put-machine-requires Inv-loop μ-loop
 put-machine-requires c κs =
-
     let loop = c .before .before in
     let start = loop .before .before .before in
     (start .pre .0, omega (arith, start .pre .1, c .before .loop-test .taken), omega (arith, start .pre .2, loop .loop .inv .1, loop .loop .inv .2 .size, c .before .loop-test .taken))
@@ -39,7 +36,6 @@ loop-less c = omega (arith, c .before .before .before .before .loop-test .taken)
 
 loop-again : tie.Need-loop-again Inv-loop μ-loop
 loop-again c =
-
     let put = c .before .before in
     let loop = put .before .before .before in
     let start = loop .before .before .before in (
@@ -53,7 +49,6 @@ same-length c = c .before .loop .inv .2 .size
 
 returns : tie.Need-returns Inv-loop μ-loop
 returns c =
-
     let inv = c .before .loop .inv in
     let z : c .before .loop .k ≡ c .before .before .before .before .args .machines = omega (arith, inv .0, c .loop-test .left) in
     (rw z at (inv .2), rw z at (inv .1))

@@ -52,7 +52,6 @@ same-length c = search needs
 returns : tie.Need-returns
 unfolding Text.spaced
 returns c =
-
     let put = c .before .before in
     let matched = put .before .before .before .before in
     let judge = matched .before in
@@ -64,7 +63,6 @@ same-length-2 c = search needs
 
 returns-2 : tie.Need-returns-2
 returns-2 c =
-
     let put = c .before .before in
     let known = put .before .before .before .before .before in
     let judge = known .before .before in
@@ -76,7 +74,6 @@ same-length-3 c = search needs
 
 returns-3 : tie.Need-returns-3
 returns-3 c =
-
     let put = c .before .before in
     let known = put .before .before .before .before .before in
     let judge = known .before .before in
@@ -85,7 +82,6 @@ returns-3 c =
 
 returns-4 : tie.Need-returns-4
 returns-4 c =
-
     let judge = c .before .before in
     let start = judge .before .before .before in
     verdict-never _ (start .pre .0) (judge .judge .result) (judge .judge .ensures .0) (c .enum-told2 .given .1)

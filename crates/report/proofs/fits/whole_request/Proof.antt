@@ -19,14 +19,12 @@ enum-told c = search needs
 
 returns : tie.Need-returns
 returns c =
-
     let asked = c .before .before .before in
     let start = asked .before .before in
     whole-value (start .pre .0) (start .pre .1) (asked .request .ensures .0) (c .before .answer .given .1)
 
 returns-2 : tie.Need-returns-2
 returns-2 c =
-
     let asked = c .before .before in
     let start = asked .before .before in
     whole-never (start .pre .0) (start .pre .1) (asked .request .ensures .0) (c .enum-told .given .1)
