@@ -29,7 +29,7 @@ inside c =
 
 -- after the tick: the level has come to the next length
 near : (c : tie.Joined1 Inv-loop μ-loop) → c .before .before .before .loop .n < 2048
-near c = c .before .before .loop-test .taken
+near c = omega (arith, c .before .before .loop-test .taken)
 
 left : (c : tie.Joined1 Inv-loop μ-loop)
     → let start = c .before .before .before .before .before .before .before .before .before .before .args in
