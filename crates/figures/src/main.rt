@@ -1,5 +1,7 @@
-// Runs document 01's bounds, tables and texts. Each line has what is asked and the reply; the file
+// Runs document 01's bounds, tables, critical sequences and texts. Each line has what is asked and the reply; the file
 // `stdout` beside src/ has what they must be. An action has a period T, a time C and a deadline D.
+mod sequences;
+
 use bounds::Tabled;
 use draft::Draft;
 use draft::action;
@@ -17,7 +19,7 @@ use libc::STDOUT_FILENO;
 use sheet::Refusal;
 use window::Answer;
 
-fn text(words: &[u8]) {
+pub(crate) fn text(words: &[u8]) {
     io::write_all(STDOUT_FILENO, words);
 }
 
@@ -35,7 +37,7 @@ fn refused(refusal: Refusal) {
     text(b"\n");
 }
 
-fn answered(answer: Answer) {
+pub(crate) fn answered(answer: Answer) {
     match answer {
         Answer::Value(value) => {
             text(b": ");
@@ -46,7 +48,7 @@ fn answered(answer: Answer) {
     }
 }
 
-fn asked(what: &[u8], machine: u32, from: u32, to: u32) {
+pub(crate) fn asked(what: &[u8], machine: u32, from: u32, to: u32) {
     text(what);
     text(b" machine ");
     number(machine);
@@ -104,7 +106,7 @@ fn pair_requests() {
 }
 
 // One machine of two states: the draft has its two actions.
-fn two_states(actions: Draft) -> Draft {
+pub(crate) fn two_states(actions: Draft) -> Draft {
     trailer(entry(actions, 2, 0, 2, 0), 16, 1)
 }
 
@@ -142,7 +144,7 @@ fn demands() {
 }
 
 // The lent words, on a line.
-fn lent(words: &[u32]) {
+pub(crate) fn lent(words: &[u32]) {
     text(b"words");
     let mut i = 0;
     while i < words.len() {
@@ -261,5 +263,6 @@ fn main() {
     demands();
     long_tables();
     short_tables();
+    sequences::sequences();
     fits();
 }

@@ -1,0 +1,155 @@
+-- The walk forward: what has been written and what is left make up the critical sequence.
+-- Assumes nothing.
+use Prim.Native.Nat.{ℕ, suc, _+_, _-_, _*_, _≤_, _<_}
+use mathlib.Core.Path.{_≡_, refl, sym, _∙_, ap}
+use mathlib.Core.Bool.{true, false}
+use mathlib.Core.List.{List, [], _∷_, _++_, append-assoc, append-nil}
+use native.Mathlib.Omega.{arith}
+use lib.ListN.{length, getD, take, drop, set, length-set, length-drop}
+use lib.Seq.{length-take-le, take-all}
+use borrow.Author.Tests.{eqb-true}
+use Rattle.model.specs.Machine.{Machine, count, actionOf}
+use Rattle.model.specs.Legal.{asked}
+use Rattle.model.specs.Sizes.{MachineSizes}
+use Rattle.model.specs.Reckon.{pair, open?, after, best, request}
+use Rattle.model.specs.Inside.{IsBack}
+use Rattle.model.specs.Critical.{makes?, firstBest, critical}
+use Rattle.model.proofs.Tests.{both-true}
+use Rattle.model.proofs.Names.{cost-is}
+use Rattle.model.proofs.Critical.{best-waits, firstBest-waits, firstBest-takes}
+use Rattle.walk.specs.Inside.{Marks, AllMarked}
+use Rattle.critical.specs.declared.forward.Leaves.{Leaves}
+use Rattle.critical.specs.declared.forward.Leaves.the-variants.{Any, State}
+use Rattle.critical.specs.Critical.{wordsOf}
+use Rattle.critical.specs.Inside.{Holds, Table, makesAt, FirstMaking}
+use Rattle.critical.proofs.Words.{words-length, pair-written}
+use Rattle.critical.proofs.Making.{allows, makes-is}
+
+-- what is left of the critical sequence from tick t on, for n ticks
+abbrev onward : Machine → ℕ → ℕ → Leaves → List ℕ
+onward m t n leaves = wordsOf (firstBest m (asked m) t n (allows m leaves))
+
+-- the walk has come to tick s + k: `number` pairs are written, and what is left of the bound is `left`
+pub record Tracing (m : Machine) (s n k : ℕ) (leaves : Leaves) (left number : ℕ) (pairs : List ℕ) : Type 0 where
+  pub early : k ≤ n
+  pub few : number ≤ k
+  pub long : length pairs ≡ 4096
+  pub goal : left ≡ best m (asked m) (s + k) (n - k) (allows m leaves)
+  pub words : take (2 * number) pairs ++ onward m (s + k) (n - k) leaves ≡ wordsOf (critical m s n)
+
+pub tracing-begin : {m : Machine} {s n bound : ℕ} {pairs : List ℕ} → length pairs ≡ 4096 → bound ≡ request m s n
+    → Tracing m s n 0 Any bound 0 pairs
+unfolding critical request
+tracing-begin {s = s} {n = n} long e =
+    let start : s + 0 ≡ s = omega arith in
+    let all : n - 0 ≡ n = omega arith in
+    record {
+      early = omega arith;
+      few = omega arith;
+      long = long;
+      goal = rw (start, all) e;
+      words = rw (start, all) refl;
+    }
+
+-- what the tick s + k of the window is walked by: its mask, and the row of the next tick
+pub record Tick (m : Machine) (s n k mask : ℕ) (later : List ℕ) : Type 0 where
+  pub more : k < n
+  pub marks : Marks m (s + k) mask
+  pub figures : IsBack m (asked m) (s + (k + 1)) (n - (k + 1)) later
+  pub long : 16 ≤ length later
+
+pub tick-read : {m : Machine} {s k : ℕ} {masks table : List ℕ} → AllMarked m s masks → Table m s (length masks) 0 table
+    → k < length masks → length masks ≤ 2048
+    → Tick m s (length masks) k (getD masks k 0) (take (length table - 16 * (k + 1)) (drop (16 * (k + 1)) table))
+tick-read {k = k} {table = table} marked rows l short =
+    let all = take-all (length table - 16 * (k + 1)) (drop (16 * (k + 1)) table) (simp length-drop (omega arith)) in
+    rw all
+    (record {
+      more = l;
+      marks = marked .at k l;
+      figures = rows .at (k + 1) (omega arith) (omega arith);
+      long = simp length-drop (omega (arith, rows .long));
+    })
+
+-- one tick
+module _ {m : Machine} (sizes : MachineSizes m) {s n k mask left number j : ℕ} {leaves : Leaves} {pairs later : List ℕ}
+    (h : Tracing m s n k leaves left number pairs) (tick : Tick m s n k mask later)
+    (first : FirstMaking m mask leaves left later j) where
+  ticks : n - k ≡ suc (n - (k + 1))
+  ticks = omega (arith, tick .more)
+
+  next : s + (k + 1) ≡ suc (s + k)
+  next = omega arith
+
+  goal-is : left ≡ best m (asked m) (s + k) (suc (n - (k + 1))) (allows m leaves)
+  goal-is = rw ticks at (h .goal)
+
+  words-are : take (2 * number) pairs ++ onward m (s + k) (suc (n - (k + 1))) leaves ≡ wordsOf (critical m s n)
+  words-are = rw ticks at (h .words)
+
+  makes : (i : ℕ) → i < count m
+      → makesAt m (s + k) leaves left later i ≡ makes? m (asked m) (s + k) (n - (k + 1)) (allows m leaves) i
+  makes = makes-is sizes leaves (rw next at (tick .figures)) goal-is
+
+  before : (i : ℕ) → i < count m → i < j → makes? m (asked m) (s + k) (n - (k + 1)) (allows m leaves) i ≡ false
+  before i l b = sym (makes i l) ∙ first .before (s + k) (tick .marks) i l b
+
+  -- no action makes up what is left, or the smallest that does is the next pair's
+  pub tracing-waits : count m ≤ j → Tracing m s n (k + 1) leaves left number pairs
+  tracing-waits l =
+      let none : (i : ℕ) → i < count m → makes? m (asked m) (s + k) (n - (k + 1)) (allows m leaves) i ≡ false =
+      λ i b. before i b (omega arith) in
+      record {
+        early = omega (arith, tick .more);
+        few = omega (arith, h .few);
+        long = h .long;
+        goal = rw next (goal-is ∙ best-waits m (asked m) (s + k) (n - (k + 1)) (allows m leaves) none);
+        words =
+            rw next
+            (ap (λ σ. take (2 * number) pairs ++ wordsOf σ)
+            (sym (firstBest-waits m (asked m) (s + k) (n - (k + 1)) (allows m leaves) none))
+            ∙ words-are);
+      }
+
+  module _ (known : j < count m) {time sink : ℕ} (lasts : time ≡ actionOf m j .time)
+      (leads : sink ≡ actionOf m j .sink) where
+    made : makes? m (asked m) (s + k) (n - (k + 1)) (allows m leaves) j ≡ true
+    made = sym (makes j known) ∙ first .found (s + k) (tick .marks) known
+
+    -- its time is a part of what is left, and the rest is the best that follows
+    parts : left ≡ time + best m (asked m) (suc (s + k)) (n - (k + 1)) (after m j)
+    parts =
+        let up : asked m (pair j (s + k)) + best m (asked m) (suc (s + k)) (n - (k + 1)) (after m j)
+        ≡ best m (asked m) (s + k) (suc (n - (k + 1))) (allows m leaves) =
+        eqb-true _ _ (both-true (open? m (allows m leaves) (pair j (s + k))) _ made .1) in
+        omega (arith, goal-is, cost-is m j)
+
+    pub time-left : time ≤ left
+    time-left = omega (arith, parts)
+
+    pub tracing-takes : {new : List ℕ} → new ≡ set (set pairs (2 * number) j) (2 * number + 1) (s + k) → n ≤ 2048
+        → Tracing m s n (k + 1) (State sink) (left - time) (number + 1) new
+    unfolding wordsOf
+    tracing-takes {new} e short =
+        record {
+          early = omega (arith, tick .more);
+          few = omega (arith, h .few);
+          long = ap length e ∙ simp length-set (h .long);
+          goal = rw (next, leads) (omega (arith, parts));
+          words =
+              rw (next, leads, e, pair-written pairs number j (s + k) (omega (arith, h .few, h .long, tick .more)))
+              (append-assoc (take (2 * number) pairs) (j ∷ (s + k) ∷ []) _
+              ∙ ap (λ σ. take (2 * number) pairs ++ wordsOf σ)
+              (sym (firstBest-takes m (asked m) (s + k) (n - (k + 1)) (allows m leaves) j known made (λ i b.
+              before i (omega arith) b)))
+              ∙ words-are);
+        }
+
+pub tracing-end : {m : Machine} {s n k left number : ℕ} {leaves : Leaves} {pairs : List ℕ}
+    → Tracing m s n k leaves left number pairs → n ≤ k → n ≤ 2048 → Holds (critical m s n) number pairs
+unfolding firstBest wordsOf
+tracing-end {m} {s} {n} {k} {number = number} {pairs = pairs} h l short =
+    let over : n - k ≡ 0 = omega arith in
+    let all : take (2 * number) pairs ≡ wordsOf (critical m s n) = sym (append-nil _) ∙ (rw over at (h .words)) in
+    let room = length-take-le (2 * number) pairs (omega (arith, h .few, h .long, h .early)) in
+    record { number = omega (arith, ap length all, words-length (critical m s n)); pairs = all }

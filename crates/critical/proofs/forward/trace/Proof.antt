@@ -1,0 +1,186 @@
+use native.Mathlib.Omega.{arith}
+use mathlib.Core.Path.{sym, _∙_, ap}
+use mathlib.Core.Logic.{⊎-elim}
+use Prim.Native.Nat.{_+_, _-_, _*_, _≤_, _<_}
+use lib.ListN.{length, getD, take, drop}
+use Rattle.model.specs.Machine.{count}
+use Rattle.walk.specs.Inside.{machineAt}
+use Rattle.walk.proofs.Read.{entry-sizes, entry-inside, entry-action}
+use Rattle.critical.proofs.Rows.{back-ready}
+use Rattle.critical.proofs.Tracing.{Tracing, tracing-begin, tracing-waits, time-left, tracing-takes, tracing-end}
+use Rattle.critical.proofs.Tracing.{Tick, tick-read}
+use Rattle.critical.proofs.forward.trace.Statement.{statement}
+use Rattle.critical.proofs.forward.trace.Tie as tie
+
+abbrev Inv-loop : tie.InvT-loop
+Inv-loop sheet entry from bound masks table pairs₀ leaves₀ left₀ number₀ k₀ pairs leaves left number k =
+    Tracing (machineAt sheet entry) from (length masks) k leaves left number pairs
+
+abbrev μ-loop : tie.MeasureT-loop
+μ-loop sheet entry from bound masks table pairs₀ leaves₀ left₀ number₀ k₀ pairs leaves left number k =
+    length masks - k
+
+abbrev start-of : tie.At-loop Inv-loop μ-loop → tie.Start Inv-loop μ-loop
+start-of c = c .before .before .before .before .before
+
+-- what a turn goes by
+tick-of : (c : tie.In-loop Inv-loop μ-loop)
+    → let start = start-of (c .before) .args in
+    let later = 16 * (c .before .loop .k + 1) in
+    Tick (machineAt (start .sheet .now) (start .entry)) (start .from) (length (start .masks .now)) (c .before .loop .k)
+    (getD (start .masks .now) (c .before .loop .k) 0)
+    (take (length (start .table .now) - later) (drop later (start .table .now)))
+tick-of c =
+    let ((marked, room), (rows, bound)) = start-of (c .before) .pre in
+    tick-read (marked .all) rows (c .loop-test .taken) (marked .short)
+
+-- the action of the next pair is one of the machine's, and stands inside the sheet
+known : (c : tie.Then1 Inv-loop μ-loop)
+    → let start = start-of (c .before .before .before .before .before .before) .args in
+    c .before .before .first-making .result < count (machineAt (start .sheet .now) (start .entry))
+known c =
+    let marked = start-of (c .before .before .before .before .before .before) .pre .0 .0 in
+    omega (arith, marked .entry .actions, c .if1 .taken)
+
+inside : (c : tie.Then1 Inv-loop μ-loop)
+    → let start = start-of (c .before .before .before .before .before .before) .args in
+    start .entry .first + 8 * c .before .before .first-making .result + 8 ≤ length (start .sheet .now)
+inside c = entry-inside (start-of (c .before .before .before .before .before .before) .pre .0 .0 .entry) (known c)
+
+loop-holds : tie.Need-loop-holds Inv-loop μ-loop
+loop-holds c =
+    let ((marked, room), (rows, bound)) = c .before .before .before .before .pre in
+    tracing-begin room bound
+
+add-later : tie.Need-add-later Inv-loop μ-loop
+add-later c = omega arith
+
+mul-later : tie.Need-mul-later Inv-loop μ-loop
+mul-later c = omega arith
+
+mul-first-making : tie.Need-mul-first-making Inv-loop μ-loop
+mul-first-making c = omega arith
+
+shared-slice-read-first-making : tie.Need-shared-slice-read-first-making Inv-loop μ-loop
+shared-slice-read-first-making c = omega arith
+
+mul-first-making-2 : tie.Need-mul-first-making-2 Inv-loop μ-loop
+mul-first-making-2 c = omega arith
+
+sub-first-making : tie.Need-sub-first-making Inv-loop μ-loop
+sub-first-making c = omega arith
+
+part-first-making-start : tie.Need-part-first-making-start Inv-loop μ-loop
+part-first-making-start c = omega arith
+
+part-first-making-end : tie.Need-part-first-making-end Inv-loop μ-loop
+part-first-making-end c = omega arith
+
+first-making-requires : tie.Need-first-making-requires Inv-loop μ-loop
+first-making-requires c κs =
+    let marked = start-of (c .before .before .before) .pre .0 .0 in
+    let tick = tick-of (c .before .before) in
+    let few = marked .short in
+    ((marked .entry, back-ready (entry-sizes (marked .entry)) (tick .figures) (omega arith) (tick .marks)), tick .long)
+
+mul-at : tie.Need-mul-at Inv-loop μ-loop
+mul-at c = omega (arith, inside c)
+
+add-at : tie.Need-add-at Inv-loop μ-loop
+add-at c = omega (arith, inside (c .before))
+
+time-requires : tie.Need-time-requires Inv-loop μ-loop
+time-requires c κs = inside (c .before)
+
+sub-left : tie.Need-sub-left Inv-loop μ-loop
+sub-left c =
+    let took = c .before .before in
+    let turn = took .before .before .before .before .before in
+    let entry = start-of (turn .before) .pre .0 .0 .entry in
+    let a = entry-action entry (known took) in
+    time-left (entry-sizes entry) (turn .before .loop .inv) (tick-of turn) (took .before .before .first-making .ensures)
+    (known took) (c .time .ensures ∙ ap (λ x. x .time) a) (ap (λ x. x .sink) a)
+
+sink-requires : tie.Need-sink-requires Inv-loop μ-loop
+sink-requires c κs = inside (c .before .before)
+
+cast-put-pair : tie.Need-cast-put-pair Inv-loop μ-loop
+cast-put-pair c =
+    let took = c .before .before .before .before in
+    let entry = start-of (took .before .before .before .before .before .before) .pre .0 .0 .entry in
+    omega (arith, known took, entry-sizes entry .actions .1)
+
+cast-put-pair-2 : tie.Need-cast-put-pair-2 Inv-loop μ-loop
+cast-put-pair-2 c = omega arith
+
+add-put-pair : tie.Need-add-put-pair Inv-loop μ-loop
+add-put-pair c = omega arith
+
+put-pair-requires : tie.Need-put-pair-requires Inv-loop μ-loop
+put-pair-requires c κs = omega arith
+
+add-number : tie.Need-add-number Inv-loop μ-loop
+add-number c = omega arith
+
+add-k : tie.Need-add-k Inv-loop μ-loop
+add-k c = omega arith
+
+loop-less : tie.Need-loop-less Inv-loop μ-loop
+loop-less c = omega arith
+
+loop-again : tie.Need-loop-again Inv-loop μ-loop
+loop-again c =
+    let turn = c .before .before .before .before .before in
+    let marked = start-of (turn .before) .pre .0 .0 in
+    let entry = marked .entry in
+    let first = c .before .before .first-making .ensures in
+    ⊎-elim
+    (λ w.
+    let took = known (record { before = c .before; if1 = w .0 }) in
+    let a = entry-action entry took in
+    rw (w .8, w .9, w .10, w .11)
+    (tracing-takes (entry-sizes entry) (turn .before .loop .inv) (tick-of turn) first took
+    (w .2 .ensures ∙ ap (λ x. x .time) a) (w .3 .ensures ∙ ap (λ x. x .sink) a) (w .5 .ensures) (marked .short)))
+    (λ w.
+    rw (w .1, w .2, w .3, w .4)
+    (tracing-waits (entry-sizes entry) (turn .before .loop .inv) (tick-of turn) first
+    (omega (arith, entry .actions, w .0 .left))))
+    (c .if1 .came)
+
+same-length : tie.Need-same-length Inv-loop μ-loop
+same-length c = c .before .loop .inv .long ∙ sym (start-of (c .before) .pre .0 .1)
+
+returns : tie.Need-returns Inv-loop μ-loop
+returns c = tracing-end (c .before .loop .inv) (c .loop-test .left) (start-of (c .before) .pre .0 .0 .short)
+
+pub trace-spec : {M : Type 1} → statement M
+trace-spec =
+    tie.close
+    (tie.spec
+    Inv-loop
+    μ-loop
+    loop-holds
+    add-later
+    mul-later
+    mul-first-making
+    shared-slice-read-first-making
+    mul-first-making-2
+    sub-first-making
+    part-first-making-start
+    part-first-making-end
+    first-making-requires
+    mul-at
+    add-at
+    time-requires
+    sub-left
+    sink-requires
+    cast-put-pair
+    cast-put-pair-2
+    add-put-pair
+    put-pair-requires
+    add-number
+    add-k
+    loop-less
+    loop-again
+    same-length
+    returns)

@@ -1,0 +1,2 @@
+pub mod Critical
+pub mod Inside

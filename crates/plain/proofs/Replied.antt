@@ -1,0 +1,105 @@
+-- The reply of `plain`: what it is where the call is refused and where the window is taken, that it agrees with the
+-- table method on each window that it takes, and that no second result satisfies the contract.
+-- Assumes nothing.
+use Prim.Native.Nat.{ℕ, _+_, _-_, _≤_, _<_}
+use mathlib.Core.Path.{_≡_, refl, sym, _∙_, ap}
+use mathlib.Core.List.{List}
+use mathlib.Core.Option.{Option, none, some}
+use native.Mathlib.Omega.{arith}
+use lib.Dec.{leb}
+use lib.ListN.{getD}
+use borrow.Author.Tests.{le-leb, lt-leb}
+use Rattle.model.specs.Machine.{Machine, machineOf}
+use Rattle.model.specs.Legal.{IsRequestBound, asked}
+use Rattle.model.specs.Reckon.{most, request}
+use Rattle.model.specs.Inside.{Closed, figure, IsRow}
+use Rattle.model.proofs.Largest.{largest-unique}
+use Rattle.model.proofs.Bounds.{request-is}
+use Rattle.model.proofs.Row.{row-request}
+use Rattle.sheet.specs.declared.Refusal.{Refusal}
+use Rattle.sheet.specs.Format.{decode}
+use Rattle.sheet.specs.Reply.{refusal}
+use Rattle.sheet.specs.Rules.{unless, _orElse_}
+use Rattle.sheet.proofs.First.{orElse-found, orElse-clear}
+use Rattle.walk.specs.declared.Entry.{Entry}
+use Rattle.walk.specs.Inside.{machineAt}
+use Rattle.window.specs.declared.Answer.{Answer}
+use Rattle.window.specs.declared.Answer.the-variants.{Value, Refused}
+use Rattle.window.specs.Window.{questionRefusal, paper}
+use Rattle.window.proofs.Asked.{proper}
+use Rattle.bounds.specs.declared.Tabled.the-variants.{Filled}
+use Rattle.bounds.specs.Bounds.{requestReply, Figure}
+use Rattle.bounds.specs.Table.{HoldsBounds}
+use Rattle.bounds.proofs.Answer.{otherwise-refused, otherwise-answered, answer-unique}
+use Rattle.plain.specs.Plain.{instants, rule14, plainRefusal, plainReply}
+use Rattle.plain.specs.Inside.{Span}
+
+-- a question that is not refused has a window
+pub question-span : (b : List ℕ) (i s f : ℕ) → questionRefusal b i s f ≡ none → Span s f
+question-span b i s f kept =
+    let p = proper b i s f kept in
+    record { forward = p .forward; short = p .short; near = p .near }
+
+module _ (b : List ℕ) (i s f : ℕ) where
+  refusal-question : {r : Refusal} → questionRefusal b i s f ≡ some r → plainRefusal b i s f ≡ some r
+  unfolding plainRefusal
+  refusal-question e = orElse-found _ e
+
+  refusal-by : questionRefusal b i s f ≡ none → plainRefusal b i s f ≡ rule14 (machineOf (decode b) i) s f
+  unfolding plainRefusal
+  refusal-by kept = orElse-clear _ kept
+
+-- what the contract says: the reply, and that a figure is the request bound
+abbrev Meets : List ℕ → ℕ → ℕ → ℕ → Answer → Type 0
+Meets b i s f r = (paper r ≡ plainReply b i s f) × Figure (IsRequestBound (machineOf (decode b) i) s f) r
+
+module _ (b : List ℕ) (i s f : ℕ) where
+  pub plain-refused : {r : Refusal} → questionRefusal b i s f ≡ some r → Meets b i s f (Refused r)
+  plain-refused e = (otherwise-refused _ (refusal-question b i s f e), tt)
+
+  -- by the number of instants of the machine that an entry is of
+  module _ (kept : questionRefusal b i s f ≡ none) (e : Entry) (of : e .machine ≡ i) {n : ℕ}
+      (counted : n ≡ instants (machineAt b e) s (f - s)) where
+    tested : rule14 (machineOf (decode b) i) s f ≡ unless (leb n 6) (refusal 14 0 0)
+    tested = rw (sym of, sym counted) refl
+
+    pub plain-many : 6 < n → Meets b i s f (Refused (refusal 14 0 0))
+    plain-many l =
+        let broken = refusal-by b i s f kept ∙ tested ∙ ap (λ t. unless t (refusal 14 0 0)) (lt-leb n 6 l) in
+        (otherwise-refused _ broken, tt)
+
+    -- each window with at most 6 instants is taken
+    pub plain-taken : {v : ℕ} → n ≤ 6 → v ≡ request (machineAt b e) s (f - s) → Meets b i s f (Value v)
+    plain-taken l g =
+        let clear = refusal-by b i s f kept ∙ tested ∙ ap (λ t. unless t (refusal 14 0 0)) (le-leb n 6 l) in
+        let window : s + (f - s) ≡ f = omega (arith, question-span b i s f kept .forward) in
+        rw (g, of) (otherwise-answered _ clear, request-is (machineOf (decode b) i) s (f - s) f window)
+
+-- on each window that it takes it agrees with the table method: with `request`, with a row of figures, and with a word
+-- of the request table
+orElse-nothing : (x : Option Refusal) → x orElse none ≡ x
+orElse-nothing none = refl
+orElse-nothing (some r) = refl
+
+pub plain-agrees-request : (b : List ℕ) (i s f : ℕ) (r q : Answer) → instants (machineOf (decode b) i) s (f - s) ≤ 6
+    → paper r ≡ plainReply b i s f → paper q ≡ requestReply b i s f → r ≡ q
+unfolding plainRefusal
+plain-agrees-request b i s f r q l e g =
+    let few = le-leb (instants (machineOf (decode b) i) s (f - s)) 6 l in
+    let same : plainReply b i s f ≡ requestReply b i s f = rw (few, orElse-nothing (questionRefusal b i s f)) refl in
+    answer-unique r q (e ∙ same) g
+
+module _ {m : Machine} {s f v : ℕ} (bound : IsRequestBound m s f v) where
+  pub plain-agrees-row : {n : ℕ} {row : List ℕ} → s + n ≡ f → Closed m → IsRow m (asked m) s n row
+      → v ≡ most (m .states) (figure row)
+  plain-agrees-row {n} {row} e closed h =
+      largest-unique bound (rw (row-request m s n row h closed) (request-is m s n f e))
+
+  pub plain-agrees-table : {n k : ℕ} (words : List ℕ) → s + k ≡ f → k ≤ n → HoldsBounds m s n words Filled
+      → v ≡ getD words k 0
+  plain-agrees-table {k = k} words e l h = largest-unique bound (rw e at (h k l))
+
+-- no second result
+pub plain-unique : (b : List ℕ) (i s f : ℕ) (r q : Answer) → paper r ≡ plainReply b i s f → paper q ≡ plainReply b i s f
+    → r ≡ q
+plain-unique b i s f = answer-unique

@@ -1,0 +1,64 @@
+use Prim.Native.Nat.{ℕ, _<_, _-_}
+use mathlib.Core.Path.{_≡_, sym, _∙_}
+use native.Mathlib.Omega.{arith}
+use borrow.Author.Count.{below-more}
+use mathlib.Core.Bool.{false}
+use mathlib.Core.Option.{none, some}
+use Rattle.model.specs.Reckon.{instant?}
+use Rattle.walk.specs.Inside.{machineAt}
+use Rattle.plain.proofs.Found.{hasInstant-by}
+use Rattle.plain.proofs.instant.has_instant.Statement.{statement}
+use Rattle.plain.proofs.instant.has_instant.Tie as tie
+
+abbrev Inv-loop : tie.InvT-loop
+Inv-loop sheet entry t k₀ k = (j : ℕ) → j < k → instant? (machineAt sheet entry) j t ≡ false
+
+abbrev μ-loop : tie.MeasureT-loop
+μ-loop sheet entry t k₀ k = entry .actions - k
+
+loop-holds : tie.Need-loop-holds Inv-loop μ-loop
+loop-holds c = λ j l. absurd (omega arith)
+
+instant-at-requires : tie.Need-instant-at-requires Inv-loop μ-loop
+instant-at-requires c κs =
+    let entry = c .before .before .before .before .pre in
+    (entry, omega (arith, entry .actions, c .if1 .taken))
+
+returns : tie.Need-returns Inv-loop μ-loop
+returns c =
+    let turn = c .before .before in
+    sym (hasInstant-by _ _ (some (turn .before .before .loop .k)) (
+      omega (arith, turn .before .before .before .before .pre .actions, turn .if1 .taken),
+      sym (c .before .instant-at .ensures) ∙ c .if2 .taken,
+      turn .before .before .loop .inv,
+    ))
+
+add-k : tie.Need-add-k Inv-loop μ-loop
+add-k c = omega arith
+
+loop-less : tie.Need-loop-less Inv-loop μ-loop
+loop-less c = omega arith
+
+loop-again : tie.Need-loop-again Inv-loop μ-loop
+loop-again c =
+    let turn = c .before .before .before .before in
+    below-more _ _ (turn .loop .inv) (sym (c .before .instant-at .ensures) ∙ c .if2 .left)
+
+returns-2 : tie.Need-returns-2 Inv-loop μ-loop
+returns-2 c =
+    let entry = c .before .before .before .before .pre in
+    sym (hasInstant-by _ _ none (λ j l. c .before .before .loop .inv j (omega (arith, entry .actions, c .if1 .left))))
+
+pub has-instant-spec : {M : Type 1} → statement M
+has-instant-spec =
+    tie.close
+    (tie.spec
+    Inv-loop
+    μ-loop
+    loop-holds
+    instant-at-requires
+    returns
+    add-k
+    loop-less
+    loop-again
+    returns-2)

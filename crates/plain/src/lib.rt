@@ -1,0 +1,35 @@
+// The plain reckoner: the request bound of one window, reckoned with no table. It is limited to
+// windows holding at most 6 instants of the machine. Definitions: specs/Plain.antt.
+mod ask;
+mod instant;
+
+ghost use mathlib.Core.Path.{_≡_};
+ghost use Rattle.model.specs.Machine.{machineOf};
+ghost use Rattle.model.specs.Legal.{IsRequestBound};
+ghost use Rattle.sheet.specs.Format.{decode};
+ghost use Rattle.window.specs.Window.{paper};
+ghost use Rattle.bounds.specs.Bounds.{Figure};
+ghost use Rattle.plain.specs.Plain.{plainReply};
+use sheet::Refusal;
+use sheet::Rule;
+use window::Answer;
+
+// The request bound of [from, to) of a machine; 14 where the window holds more than 6 instants.
+pub fn plain(sheet: &[u8], machine: u32, from: u32, to: u32) -> Answer
+    ensures { λ r. ⌜ paper r ≡ plainReply (now (sheet .entry)) machine from to ⌝ }
+    ensures { λ r. ⌜ Figure (IsRequestBound (machineOf (decode (now (sheet .entry))) machine) from to) r ⌝ }
+{
+    let rule = window::question(sheet, machine, from as u64, to as u64);
+    if let Rule::Broken(refusal) = rule {
+        return Answer::Refused(refusal);
+    }
+    let entry = walk::entry_of(sheet, machine as usize);
+    if 6 < instant::instants_in(sheet, entry, from, to) {
+        return Answer::Refused(Refusal {
+            number: 14,
+            first: 0,
+            second: 0,
+        });
+    }
+    Answer::Value(ask::ask_machine(sheet, entry, from, to))
+}
