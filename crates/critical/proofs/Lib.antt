@@ -1,4 +1,5 @@
 pub mod Words
+pub mod Raised
 pub mod Rows
 pub mod Making
 pub mod Tracing

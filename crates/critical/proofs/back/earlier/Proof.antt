@@ -7,7 +7,7 @@ use Rattle.model.specs.Machine.{count}
 use Rattle.walk.specs.Inside.{machineAt}
 use Rattle.walk.proofs.Mask.{rest-more}
 use Rattle.walk.proofs.Read.{entry-sizes, entry-inside, entry-action}
-use Rattle.critical.proofs.Rows.{Raising, raising-begin, raising-raise, raising-skip, raising-end, entry-leads}
+use Rattle.critical.proofs.Raised.{Raising, raising-begin, raising-raise, raising-skip, raising-end, entry-leads}
 use Rattle.critical.proofs.back.earlier.Statement.{statement}
 use Rattle.critical.proofs.back.earlier.Tie as tie
 

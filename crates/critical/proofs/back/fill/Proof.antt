@@ -4,7 +4,8 @@ use lib.ListN.{length}
 use Rattle.walk.specs.Inside.{machineAt}
 use Rattle.walk.proofs.Read.{entry-sizes}
 use Rattle.critical.specs.Inside.{Filled}
-use Rattle.critical.proofs.Rows.{back-ready, filled-begin, filled-more, filled-end}
+use Rattle.critical.proofs.Raised.{back-ready}
+use Rattle.critical.proofs.Rows.{filled-begin, filled-more, filled-end}
 use Rattle.critical.proofs.back.fill.Statement.{statement}
 use Rattle.critical.proofs.back.fill.Tie as tie
 
@@ -42,7 +43,8 @@ earlier-requires c κs =
     let turn = c .before .before in
     let marked = start-of turn .pre .0 in
     let mask = marked .all .at _ (shared-slice-read-earlier c) in
-    (marked .entry, back-ready (entry-sizes (marked .entry)) (turn .loop .inv .last) (omega (arith, marked .short)) mask)
+    let few = marked .short in
+    (marked .entry, back-ready (entry-sizes (marked .entry)) (turn .loop .inv .last) (omega arith) mask)
 
 lay-requires-2 : tie.Need-lay-requires-2 Inv-loop μ-loop
 lay-requires-2 c κs =

@@ -9,7 +9,7 @@ use Rattle.walk.proofs.Mask.{rest-more}
 use Rattle.walk.proofs.Read.{entry-inside, entry-action}
 use Rattle.critical.proofs.Making.{Seeking, seeking-begin, seeking-unmarked, seeking-other}
 use Rattle.critical.proofs.Making.{seeking-found, seeking-end}
-use Rattle.critical.proofs.Rows.{entry-leads}
+use Rattle.critical.proofs.Raised.{entry-leads}
 use Rattle.critical.proofs.forward.first_making.Statement.{statement}
 use Rattle.critical.proofs.forward.first_making.Tie as tie
 

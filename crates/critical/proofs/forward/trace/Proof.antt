@@ -6,7 +6,7 @@ use lib.ListN.{length, getD, take, drop}
 use Rattle.model.specs.Machine.{count}
 use Rattle.walk.specs.Inside.{machineAt}
 use Rattle.walk.proofs.Read.{entry-sizes, entry-inside, entry-action}
-use Rattle.critical.proofs.Rows.{back-ready}
+use Rattle.critical.proofs.Raised.{back-ready}
 use Rattle.critical.proofs.Tracing.{Tracing, tracing-begin, tracing-waits, time-left, tracing-takes, tracing-end}
 use Rattle.critical.proofs.Tracing.{Tick, tick-read}
 use Rattle.critical.proofs.forward.trace.Statement.{statement}
