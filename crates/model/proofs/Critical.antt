@@ -15,7 +15,8 @@ use Rattle.model.specs.Machine.{Machine, count}
 use Rattle.model.specs.Legal.{Pair, Within, total, cost, asked, IsRequestBound}
 use Rattle.model.specs.Reckon.{begins?, most, pair, open?, after, gain, best, request}
 use Rattle.model.specs.Critical.{Before, NotAfter, Reaches, IsCritical}
-use Rattle.model.specs.Critical.{smallest, makes?, orElse, firstBest, critical}
+use Rattle.model.specs.Search.{smallestBelow}
+use Rattle.model.specs.Critical.{makes?, orElse, firstBest, critical}
 use Rattle.model.proofs.Tests.{both-true, cond-cases}
 use Rattle.model.proofs.Most.{most-above, most-at}
 use Rattle.model.proofs.Smallest.{Smallest, smallest-is, smallest-unique}
@@ -74,14 +75,14 @@ module _ (m : Machine) (w : Pair → ℕ) (t n : ℕ) (from : ℕ → Bool) wher
   pub firstBest-waits : ((j : ℕ) → j < count m → makes? m w t n from j ≡ false)
       → firstBest m w t (suc n) from ≡ firstBest m w (suc t) n from
   unfolding firstBest
-  firstBest-waits h = rw (smallest-unique (count m) _ (smallest _ _) none (smallest-is (count m) _) h) refl
+  firstBest-waits h = rw (smallest-unique (count m) _ (smallestBelow _ _) none (smallest-is (count m) _) h) refl
 
   pub firstBest-takes : (k : ℕ) → k < count m → makes? m w t n from k ≡ true
       → ((j : ℕ) → j < k → makes? m w t n from j ≡ false)
       → firstBest m w t (suc n) from ≡ pair k t ∷ firstBest m w (suc t) n (after m k)
   unfolding firstBest
   firstBest-takes k l e h =
-      rw (smallest-unique (count m) _ (smallest _ _) (some k) (smallest-is (count m) _) (l, e, h)) refl
+      rw (smallest-unique (count m) _ (smallestBelow _ _) (some k) (smallest-is (count m) _) (l, e, h)) refl
 
 module _ (m : Machine) (ok : Pair → Type 0) (w : Pair → ℕ) where
   -- σ goes onward, reaches the largest total, and is the first that does
@@ -171,7 +172,7 @@ module _ (m : Machine) (ok : Pair → Type 0) (w : Pair → ℕ) where
   firstBest-good s f idle fits positive t (suc n) from a b =
       good-more t n from s f idle a b fits positive (firstBest m w (suc t) n)
       (λ g. firstBest-good s f idle fits positive (suc t) n g (omega arith) (omega arith))
-      (smallest (count m) (makes t n from)) (smallest-is (count m) (makes t n from))
+      (smallestBelow (count m) (makes t n from)) (smallest-is (count m) (makes t n from))
 
 reaches-onward : (m : Machine) (s f : ℕ) (σ : List Pair) → Reaches m s f σ → Onward m (Within s f) (begins? m) s σ
 reaches-onward m s f σ h = legal-onward m (Within s f) s (λ p k. k .0) σ (h .legal) (h .within)

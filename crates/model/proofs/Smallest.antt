@@ -8,23 +8,35 @@ use mathlib.Core.Logic.{⊎-elim}
 use native.Mathlib.Omega.{arith}
 use native.Mathlib.Decide.{decLt}
 use native.Mathlib.Nat.{eq-or-lt-of-le, le-of-suc-le-suc}
-use Rattle.model.specs.Critical.{smallest}
+use Rattle.model.specs.Search.{smallestBelow}
+use Rattle.model.proofs.Search.{some-none, firstOf-none, firstOf-some}
 
--- what `smallest` tells
+-- what `smallestBelow` tells
 abbrev pub Smallest : ℕ → (ℕ → Bool) → Option ℕ → Type 0
 Smallest n f none = (j : ℕ) → j < n → f j ≡ false
 Smallest n f (some i) = (i < n) × (f i ≡ true) × ((j : ℕ) → j < i → f j ≡ false)
 
-pub smallest-is : (n : ℕ) (f : ℕ → Bool) → Smallest n f (smallest n f)
-unfolding smallest
-smallest-is zero f = λ j h. absurd (omega arith)
-smallest-is (suc n) f = more (smallest n f) (smallest-is n f) (f n) refl
+pub smallest-is : (n : ℕ) (f : ℕ → Bool) → Smallest n f (smallestBelow n f)
+unfolding smallestBelow
+smallest-is n f = tells (smallestBelow n f) refl
   where
-    more : (o : Option ℕ) → Smallest n f o → (b : Bool) → f n ≡ b
-        → Smallest (suc n) f (elim o [ none ↦ cond b (some n) none | some i ↦ some i ])
-    more none h true e = (omega arith, e, h)
-    more none h false e = λ j l. ⊎-elim (λ z. ap f z ∙ e) (λ k. h j k) (eq-or-lt-of-le (le-of-suc-le-suc l))
-    more (some i) h b e = (omega arith, h .1, h .2)
+    answer : ℕ → Option ℕ
+    answer k = cond (f k) (some k) none
+
+    passed : (k : ℕ) (b : Bool) → f k ≡ b → {i : ℕ} → cond b (some k) none ≡ some i → (k ≡ i) × (f k ≡ true)
+    passed k true e q = (cc, e)
+    passed k false e q = absurd (some-none (sym q))
+
+    failed : (k : ℕ) (b : Bool) → f k ≡ b → cond b (some k) none ≡ none → f k ≡ false
+    failed k true e q = absurd (some-none q)
+    failed k false e q = e
+
+    tells : (o : Option ℕ) → smallestBelow n f ≡ o → Smallest n f o
+    tells none e = λ j l. failed j (f j) refl (firstOf-none answer 0 n e j (omega arith) (omega arith))
+    tells (some i) e =
+        let (k, low, high, found, before) = firstOf-some answer 0 n i e in
+        let (same, pass) = passed k (f k) refl found in
+        (omega arith, ap f (sym same) ∙ pass, λ j l. failed j (f j) refl (before j (omega arith) (omega arith)))
 
 -- and nothing else is the smallest
 pub smallest-unique : (n : ℕ) (f : ℕ → Bool) (o r : Option ℕ) → Smallest n f o → Smallest n f r → o ≡ r

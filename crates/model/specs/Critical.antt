@@ -2,7 +2,7 @@
 -- That there is exactly one, and that `critical` finds it, is proved in proofs/Critical.antt.
 use Prim.Native.Nat.{ℕ, zero, suc, _+_, _<_}
 use mathlib.Core.Path.{_≡_}
-use mathlib.Core.Bool.{Bool, cond, _&&_}
+use mathlib.Core.Bool.{Bool, _&&_}
 use mathlib.Core.List.{List, [], _∷_}
 use mathlib.Core.Option.{Option, none, some}
 use mathlib.Core.Logic.{_⊎_}
@@ -10,6 +10,7 @@ use lib.Dec.{eqb}
 use Rattle.model.specs.Machine.{Machine, count}
 use Rattle.model.specs.Legal.{Pair, Legal, Each, Within, total, asked, IsRequestBound}
 use Rattle.model.specs.Reckon.{begins?, pair, open?, after, best}
+use Rattle.model.specs.Search.{smallestBelow}
 
 -- p comes before r: smaller instant first, then smaller action number
 abbrev pub Before : Pair → Pair → Type 0
@@ -32,11 +33,6 @@ pub record IsCritical (m : Machine) (s f : ℕ) (σ : List Pair) : Type 0 where
   pub reaches : Reaches m s f σ
   pub first : (τ : List Pair) → Reaches m s f τ → NotAfter σ τ
 
--- the smallest number below n that passes the test
-unfoldable pub smallest : ℕ → (ℕ → Bool) → Option ℕ
-smallest zero f = none
-smallest (suc n) f = elim (smallest n f) [ none ↦ cond (f n) (some n) none | some i ↦ some i ]
-
 -- action k may be triggered at t, and with the best that follows it makes up the largest total of [t, t + n]
 abbrev pub makes? : Machine → (Pair → ℕ) → ℕ → ℕ → (ℕ → Bool) → ℕ → Bool
 makes? m w t n from k =
@@ -51,7 +47,7 @@ orElse (some k) go stay = go k
 unfoldable pub firstBest : Machine → (Pair → ℕ) → ℕ → ℕ → (ℕ → Bool) → List Pair
 firstBest m w t zero from = []
 firstBest m w t (suc n) from =
-    orElse (smallest (count m) (makes? m w t n from)) (λ k. pair k t ∷ firstBest m w (suc t) n (after m k))
+    orElse (smallestBelow (count m) (makes? m w t n from)) (λ k. pair k t ∷ firstBest m w (suc t) n (after m k))
     (firstBest m w (suc t) n from)
 
 -- the critical sequence of [s, s + n)

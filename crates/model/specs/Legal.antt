@@ -31,8 +31,10 @@ Taken m p = (p .action < count m) × Instant m (p .action) (p .instant)
 abbrev pub Chain : Machine → Pair → List Pair → Type 0
 Chain m p [] = Taken m p
 Chain m p (r ∷ σ) =
-    Taken m p × (actionOf m (p .action) .sink ≡ actionOf m (r .action) .source) × (p .instant < r .instant) × Chain m r σ
+    Taken m p × (actionOf m (p .action) .sink ≡ actionOf m (r .action) .source)
+    × (p .instant < r .instant) × Chain m r σ
 
+-- a legal sequence: possibly empty, and the first pair may leave any state
 abbrev pub Legal : Machine → List Pair → Type 0
 Legal m [] = Unit
 Legal m (p ∷ σ) = MayBegin m (actionOf m (p .action) .source) × Chain m p σ

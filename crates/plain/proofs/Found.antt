@@ -11,8 +11,7 @@ use native.Mathlib.Nat.{eq-or-lt-of-le}
 use Rattle.model.specs.Machine.{Machine, count}
 use Rattle.model.specs.Legal.{Instant}
 use Rattle.model.specs.Reckon.{instant?}
-use Rattle.model.specs.Critical.{smallest}
-use Rattle.model.specs.Search.{isFound}
+use Rattle.model.specs.Search.{smallestBelow, isFound}
 use Rattle.model.proofs.Names.{instant?-law}
 use Rattle.model.proofs.Smallest.{Smallest, smallest-is, smallest-unique}
 use Rattle.plain.specs.Plain.{hasInstant, instants}
@@ -46,10 +45,10 @@ module _ (m : Machine) where
   -- a search through the actions tells whether the machine has an instant
   pub hasInstant-by : (t : ℕ) (o : Option ℕ) → Smallest (count m) (λ k. instant? m k t) o → hasInstant m t ≡ isFound o
   unfolding hasInstant
-  hasInstant-by t o h = ap isFound (smallest-unique (count m) _ (smallest _ _) o (smallest-is (count m) _) h)
+  hasInstant-by t o h = ap isFound (smallest-unique (count m) _ (smallestBelow _ _) o (smallest-is (count m) _) h)
 
   pub hasInstant-law : (t : ℕ) → (hasInstant m t ≡ true) ↔ ((k : ℕ) × (k < count m) × Instant m k t)
-  hasInstant-law t = cases (smallest (count m) (λ k. instant? m k t)) (smallest-is (count m) (λ k. instant? m k t))
+  hasInstant-law t = cases (smallestBelow (count m) (λ k. instant? m k t)) (smallest-is (count m) (λ k. instant? m k t))
     where
       cases : (o : Option ℕ) → Smallest (count m) (λ k. instant? m k t) o
           → (hasInstant m t ≡ true) ↔ ((k : ℕ) × (k < count m) × Instant m k t)

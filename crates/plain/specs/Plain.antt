@@ -6,8 +6,7 @@ use mathlib.Core.Option.{Option}
 use lib.Dec.{leb}
 use Rattle.model.specs.Machine.{Machine, count, machineOf}
 use Rattle.model.specs.Reckon.{instant?, request}
-use Rattle.model.specs.Critical.{smallest}
-use Rattle.model.specs.Search.{isFound}
+use Rattle.model.specs.Search.{smallestBelow, isFound}
 use Rattle.sheet.specs.declared.Refusal.{Refusal}
 use Rattle.sheet.specs.Format.{decode}
 use Rattle.sheet.specs.Reply.{Reply, answer, refusal}
@@ -17,7 +16,7 @@ use Rattle.window.specs.Window.{questionRefusal}
 
 -- t is an instant of the machine: some action has one there
 unfoldable pub hasInstant : Machine → ℕ → Bool
-hasInstant m t = isFound (smallest (count m) (λ k. instant? m k t))
+hasInstant m t = isFound (smallestBelow (count m) (λ k. instant? m k t))
 
 -- how many instants of the machine [s, s + n) holds, an instant counted once
 unfoldable pub instants : Machine → ℕ → ℕ → ℕ

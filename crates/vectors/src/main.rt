@@ -76,40 +76,27 @@ fn pairs() {
     );
 }
 
+// Two machines of one action each, their entries still to come.
+fn two_turns() -> Draft {
+    turn(turn(empty(), 2, 1, 1), 2, 1, 1)
+}
+
 fn orders() {
     check(
         b"rule 7 at machine 1, rule 8 at machine 0",
         two(turn(empty(), 2, 1, 3), 2, 0, 1),
     );
-    let two_entries = entry(
-        entry(turn(turn(empty(), 2, 1, 1), 2, 1, 1), 1, 0, 1, 9),
-        0,
-        0,
-        1,
-        8,
-    );
+    let two_entries = entry(entry(two_turns(), 1, 0, 1, 9), 0, 0, 1, 8);
     check(
         b"rule 5 at machine 1, rule 6 at machine 0",
         trailer(two_entries, 16, 2),
     );
-    let too_many = entry(
-        entry(turn(turn(empty(), 2, 1, 1), 2, 1, 1), 1, 0, 2, 1),
-        1,
-        0,
-        1,
-        8,
-    );
+    let too_many = entry(entry(two_turns(), 1, 0, 2, 1), 1, 0, 1, 8);
     check(
         b"rule 6 at machine 0 and at the end",
         trailer(too_many, 16, 2),
     );
-    let at_end = entry(
-        entry(turn(turn(empty(), 2, 1, 1), 2, 1, 1), 1, 0, 1, 0),
-        1,
-        0,
-        2,
-        8,
-    );
+    let at_end = entry(entry(two_turns(), 1, 0, 1, 0), 1, 0, 2, 8);
     check(b"rule 6 at the end alone", trailer(at_end, 16, 2));
     let third = turn(turn(turn(empty(), 2, 1, 2), 2, 1, 3), 2, 1, 4);
     check(
