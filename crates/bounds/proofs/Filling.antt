@@ -16,7 +16,7 @@ use Rattle.model.specs.Inside.{IsRow}
 use Rattle.bounds.specs.Table.{listed, requestTable, inFront}
 
 module _ (f : ℕ → ℕ) where
-  listed-length : (n : ℕ) → length (listed f n) ≡ n
+  pub listed-length : (n : ℕ) → length (listed f n) ≡ n
   unfolding listed
   listed-length zero = refl
   listed-length (suc n) = length-append (listed f n) (f n ∷ []) ∙ omega (arith, listed-length n)

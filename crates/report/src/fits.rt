@@ -18,7 +18,7 @@ use verdict::Verdict;
 use window::Answer;
 
 // REFUSED with number and place.
-pub(crate) fn put_refused(out: &mut [u8], at: usize, refusal: Refusal) -> usize
+pub fn put_refused(out: &mut [u8], at: usize, refusal: Refusal) -> usize
     requires { ⌜ at + 41 ≤ length (now out) ⌝ }
     ensures { λ r. ⌜ Put (now (out .entry)) at (refusedLine refusal) r (now (out .exit)) ⌝ }
 {

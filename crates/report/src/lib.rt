@@ -2,3 +2,4 @@
 mod fits;
 
 pub use fits::fit;
+pub use fits::put_refused;

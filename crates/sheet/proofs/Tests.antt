@@ -49,16 +49,19 @@ equal-tests true b f g = sym (f refl)
 equal-tests false true f g = g refl
 equal-tests false false f g = refl
 
+pub same-test : (xs ys : List ℕ) (r : Bool) → (r ≡ true → xs ≡ ys) × (xs ≡ ys → r ≡ true) → r ≡ same xs ys
+same-test xs ys r (there, back) =
+    equal-tests r (same xs ys) (λ e. rw (there e) (same-self ys)) (λ e. back (same-equal xs ys e))
+
 -- the last four bytes, taken as a part to the very end
 pub marked-same : (b : List ℕ) (r : Bool) → 4 ≤ length b
     → (r ≡ true → take (length b - (length b - 4)) (drop (length b - 4) b) ≡ mark)
     × (take (length b - (length b - 4)) (drop (length b - 4) b) ≡ mark → r ≡ true)
     → r ≡ same (lastFour b) mark
-marked-same b r l (there, back) =
-    let whole : take (length b - (length b - 4)) (lastFour b) ≡ lastFour b = take-all (length b - (length b - 4)) (lastFour b) (simp length-drop (omega arith)) in
-    equal-tests r (same (lastFour b) mark)
-    (λ e. subst (λ (l : List ℕ). same l mark ≡ true) (sym (sym whole ∙ there e)) (same-self mark))
-    (λ e. back (whole ∙ same-equal (lastFour b) mark e))
+marked-same b r l h =
+    let rest = length b - (length b - 4) in
+    let whole : take rest (lastFour b) ≡ lastFour b = take-all rest (lastFour b) (simp length-drop (omega arith)) in
+    rw whole at (same-test (take rest (lastFour b)) mark r h)
 
 -- an entry's test, by the fields that are read of it
 module _ (b : List ℕ) (k : ℕ) (known : k < machineCount b) where

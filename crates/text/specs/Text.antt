@@ -30,6 +30,10 @@ spaced (n ∷ ns) = 32 ∷ decimal n ++ spaced ns
 abbrev pub line : List ℕ → List ℕ → List ℕ
 line word ns = word ++ (spaced ns ++ (10 ∷ []))
 
+-- numbers, at least one, as a line of their own
+abbrev pub row : ℕ → List ℕ → List ℕ
+row n ns = line (decimal n) ns
+
 -- the number that a word of decimal digits says, the digits so far being v; none for another character, or past 32 bits
 unfoldable pub readFrom : ℕ → List ℕ → Option ℕ
 readFrom v [] = some v

@@ -4,7 +4,7 @@ ghost use mathlib.Core.Path.{_≡_};
 ghost use mathlib.Core.List.{[], _∷_};
 ghost use Prim.Native.Nat.{_+_, _*_, _≤_, _<_};
 ghost use lib.ListN.{length};
-ghost use Rattle.text.specs.Text.{decimal, spaced, line, readNumber};
+ghost use Rattle.text.specs.Text.{decimal, spaced, line, row, readNumber};
 ghost use Rattle.text.specs.Inside.{Put, told};
 
 // What a word says that should be a number.
@@ -95,5 +95,15 @@ pub fn put_line(out: &mut [u8], at: usize, word: &[u8], numbers: &[u32]) -> usiz
 {
     let first = put_bytes(out, at, word);
     let last = put_spaced(out, first, numbers);
+    put_byte(out, last, 10)
+}
+
+// Numbers, at least one, as a line of their own.
+pub fn put_row(out: &mut [u8], at: usize, first: u32, others: &[u32]) -> usize
+    requires { ⌜ at + (11 * length (now others) + 11) ≤ length (now out) ⌝ }
+    ensures { λ r. ⌜ Put (now (out .entry)) at (row first (now (others .entry))) r (now (out .exit)) × (r ≤ at + (11 * length (now (others .entry)) + 11)) ⌝ }
+{
+    let next = put_decimal(out, at, first);
+    let last = put_spaced(out, next, others);
     put_byte(out, last, 10)
 }

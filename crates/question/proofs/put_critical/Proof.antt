@@ -1,0 +1,92 @@
+use Rattle.question.proofs.Lines.{number-alone}
+use Rattle.question.proofs.Asking.{critical-room, critical-filled, critical-refused}
+use Rattle.text.proofs.Laws.{put-then}
+use denote.Ref.{now}
+use native.Mathlib.Omega.{arith}
+use borrow.Author.Needs.{needs}
+use Rattle.question.proofs.put_critical.Statement.{statement}
+use Rattle.question.proofs.put_critical.Tie as tie
+
+slice-aggregate-critical : tie.Need-slice-aggregate-critical
+slice-aggregate-critical c = search needs
+
+critical-requires : tie.Need-critical-requires
+critical-requires c κs = search needs
+
+enum-known-answer : tie.Need-enum-known-answer
+enum-known-answer c = search needs
+
+slice-aggregate-put-row : tie.Need-slice-aggregate-put-row
+slice-aggregate-put-row c = search needs
+
+put-row-requires : tie.Need-put-row-requires
+put-row-requires c κs = search needs
+
+slice-aggregate-put-pairs : tie.Need-slice-aggregate-put-pairs
+slice-aggregate-put-pairs c = search needs
+
+cast-put-pairs : tie.Need-cast-put-pairs
+cast-put-pairs c = search needs
+
+put-pairs-requires : tie.Need-put-pairs-requires
+put-pairs-requires c κs =
+    let known = c .before .before .before .before .before .before .before .before in
+    let found = known .before .before .before in
+    let args = found .before .before .before .before .args in
+    let room = critical-room (now (args .sheet)) (args .machine) (args .from) (args .to) _ (found .critical .ensures .0) _ (known .answer .given .1) in
+    let put = c .before .before .before .before in
+    (omega (arith, room), omega (arith, room, found .before .before .before .before .pre, put .put-row .ensures .0 .size, put .put-row .ensures .1))
+
+enum-known-answer-2 : tie.Need-enum-known-answer-2
+enum-known-answer-2 c = search needs
+
+put-refused-requires : tie.Need-put-refused-requires
+put-refused-requires c κs = search needs
+
+same-length : tie.Need-same-length
+same-length c = search needs
+
+returns : tie.Need-returns
+returns c =
+    let known = c .before .before .before .before .before .before .before .before .before .before .before in
+    let found = known .before .before .before in
+    let args = found .before .before .before .before .args in
+    let put = c .before .before .before .before .before .before .before in
+    let whole = put-then (put .put-row .ensures .0) (c .before .before .put-pairs .ensures) in
+    rw (
+      ← number-alone _,
+      critical-filled (now (args .sheet)) (args .machine) (args .from) (args .to) _ (found .critical .ensures .0) _ (known .answer .given .1)
+          _ (found .critical .ensures .1 .0),
+    ) at whole
+
+same-length-2 : tie.Need-same-length-2
+same-length-2 c = search needs
+
+returns-2 : tie.Need-returns-2
+returns-2 c =
+    let known = c .before .before .before .before .before in
+    let found = known .before .before .before in
+    let args = found .before .before .before .before .args in
+    rw (
+    critical-refused (now (args .sheet)) (args .machine) (args .from) (args .to) _ (found .critical .ensures .0)
+    (known .answer2 .given .1)
+    ) at (c .before .before .put-refused .ensures)
+
+pub put-critical-spec : {M : Type 1} → statement M
+put-critical-spec =
+    tie.close
+    (tie.spec
+    slice-aggregate-critical
+    critical-requires
+    enum-known-answer
+    slice-aggregate-put-row
+    put-row-requires
+    slice-aggregate-put-pairs
+    cast-put-pairs
+    put-pairs-requires
+    enum-known-answer-2
+    put-refused-requires
+    same-length
+    returns
+    same-length-2
+    returns-2)

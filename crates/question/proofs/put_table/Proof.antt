@@ -1,0 +1,99 @@
+use Rattle.question.proofs.Asking.{table-room, table-taken, table-filled, table-refused}
+use denote.Ref.{now}
+use native.Mathlib.Omega.{arith}
+use borrow.Author.Needs.{needs}
+use Rattle.question.proofs.put_table.Statement.{statement}
+use Rattle.question.proofs.put_table.Tie as tie
+
+slice-aggregate-table : tie.Need-slice-aggregate-table
+slice-aggregate-table c = search needs
+
+table-requires : tie.Need-table-requires
+table-requires c κs = search needs
+
+enum-told : tie.Need-enum-told
+enum-told c = search needs
+
+add-words : tie.Need-add-words
+add-words c = search needs
+
+array-share-prefix-words : tie.Need-array-share-prefix-words
+array-share-prefix-words c =
+    let told = c .before in
+    let table = told .before .before .before in
+    let args = table .before .before .before .before .args in
+    omega (
+      arith,
+      table-room (now (args .sheet)) (args .machine) (args .from) (args .length) _ (table .table .ensures .0) (told .enum-told .given .1),
+    )
+
+slice-aggregate-put-numbers : tie.Need-slice-aggregate-put-numbers
+slice-aggregate-put-numbers c =
+    let told = c .before .before in
+    let table = told .before .before .before in
+    let args = table .before .before .before .before .args in
+    table-taken (now (args .sheet)) (args .machine) (args .from) (args .length) _ (table .table .ensures .0) (told .enum-told .given .1)
+    _ (table .table .ensures .1 .0)
+
+put-numbers-requires : tie.Need-put-numbers-requires
+put-numbers-requires c κs =
+    let told = c .before .before in
+    let table = told .before .before .before in
+    let args = table .before .before .before .before .args in
+    omega (
+      arith,
+      table .before .before .before .before .pre,
+      table-room (now (args .sheet)) (args .machine) (args .from) (args .length) _ (table .table .ensures .0) (told .enum-told .given .1),
+      table-taken (now (args .sheet)) (args .machine) (args .from) (args .length) _ (table .table .ensures .0) (told .enum-told .given .1)
+          _ (table .table .ensures .1 .0),
+    )
+
+enum-known-tabled : tie.Need-enum-known-tabled
+enum-known-tabled c = search needs
+
+put-refused-requires : tie.Need-put-refused-requires
+put-refused-requires c κs = search needs
+
+same-length : tie.Need-same-length
+same-length c = search needs
+
+returns : tie.Need-returns
+returns c =
+    let told = c .before .before .before .before .before in
+    let table = told .before .before .before in
+    let args = table .before .before .before .before .args in
+    rw (
+    table-filled (now (args .sheet)) (args .machine) (args .from) (args .length) _ (table .table .ensures .0) (told .enum-told .given .1)
+    _ (table .table .ensures .1 .0)
+    ) at (c .before .before .put-numbers .ensures)
+
+same-length-2 : tie.Need-same-length-2
+same-length-2 c = search needs
+
+returns-2 : tie.Need-returns-2
+returns-2 c =
+    let known = c .before .before .before .before .before in
+    let table = known .before .before .before in
+    let args = table .before .before .before .before .args in
+    rw (
+    table-refused (now (args .sheet)) (args .machine) (args .from) (args .length) _ (table .table .ensures .0)
+    (known .tabled .given .1)
+    ) at (c .before .before .put-refused .ensures)
+
+pub put-table-spec : {M : Type 1} → statement M
+put-table-spec =
+    tie.close
+    (tie.spec
+    slice-aggregate-table
+    table-requires
+    enum-told
+    add-words
+    array-share-prefix-words
+    slice-aggregate-put-numbers
+    put-numbers-requires
+    enum-known-tabled
+    put-refused-requires
+    same-length
+    returns
+    same-length-2
+    returns-2)
