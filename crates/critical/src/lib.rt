@@ -8,7 +8,7 @@ ghost use lib.ListN.{length};
 ghost use Rattle.model.specs.Machine.{machineOf};
 ghost use Rattle.sheet.specs.Format.{decode};
 ghost use Rattle.window.specs.Window.{paper};
-ghost use Rattle.window.proofs.Asked.{Proper};
+ghost use Rattle.window.specs.Inside.{Proper};
 ghost use Rattle.critical.specs.Critical.{sequenceOf, criticalReply, criticalWords, HoldsCritical};
 ghost use Rattle.critical.specs.Inside.{Marked, markedSequence, Holds};
 use sheet::Refusal;
