@@ -23,7 +23,8 @@ use Rattle.walk.specs.Inside.{machineAt}
 use Rattle.window.specs.declared.Answer.{Answer}
 use Rattle.window.specs.declared.Answer.the-variants.{Value, Refused}
 use Rattle.window.specs.Window.{questionRefusal, paper}
-use Rattle.window.proofs.Asked.{Proper, proper}
+use Rattle.window.specs.Inside.{Proper}
+use Rattle.window.proofs.Asked.{proper}
 use Rattle.bounds.specs.Table.{inFront, unlessRefused}
 use Rattle.bounds.proofs.Answer.{otherwise-refused, otherwise-answered, answer-unique}
 use Rattle.critical.specs.Critical.{sequenceOf, wordsOf, criticalRefusal, criticalReply, criticalWords}

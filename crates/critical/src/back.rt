@@ -19,7 +19,8 @@ pub(crate) fn fill(
     table: &mut [u32],
 ) -> [u32; 16]
     requires { ⌜ Marked (now sheet) entry from (now masks) × (length (now table) ≡ 32784) ⌝ }
-    ensures { λ r. ⌜ Filled (machineAt (now (sheet .entry)) entry) from (length (now (masks .entry))) 0 r (now (table .exit)) ⌝ }
+    ensures { λ r. ⌜ Filled (machineAt (now (sheet .entry)) entry) from (length (now (masks .entry))) 0 r
+        (now (table .exit)) ⌝ }
 {
     let mut row = [0u32; 16];
     let mut k = masks.len();
@@ -63,7 +64,8 @@ fn earlier(sheet: &[u8], entry: Entry, mask: u32, later: [u32; 16]) -> [u32; 16]
 // Raises the row at the source of the action at `at`; `later` has the figures after the tick.
 fn raise(sheet: &[u8], at: usize, later: &[u32; 16], row: &mut [u32; 16])
     requires { ⌜ Leads (now sheet) at (now later) × (length (now row) ≡ 16) ⌝ }
-    ensures { λ _. ⌜ now (row .exit) ≡ pushed (back (actionAt (now (sheet .entry)) at)) (now (later .entry)) (now (row .entry)) ⌝ }
+    ensures { λ _. ⌜ now (row .exit)
+        ≡ pushed (back (actionAt (now (sheet .entry)) at)) (now (later .entry)) (now (row .entry)) ⌝ }
 {
     let source = read::source(sheet, at);
     let sink = read::sink(sheet, at);

@@ -5,7 +5,8 @@ ghost use lib.ListN.{length, set};
 ghost use Rattle.model.specs.Reckon.{request};
 ghost use Rattle.sheet.specs.Format.{actionAt};
 ghost use Rattle.walk.specs.Inside.{machineAt, IsEntry, Ready};
-ghost use Rattle.critical.specs.Inside.{Marked, markedSequence, Holds, Table, Leads, mayLeave, makesUp, FirstMaking};
+ghost use Rattle.critical.specs.Inside.{Marked, markedSequence, Holds, Table};
+ghost use Rattle.critical.specs.Inside.{Leads, mayLeave, makesUp, FirstMaking};
 use sheet::read;
 use walk::Entry;
 
@@ -29,7 +30,8 @@ pub(crate) fn trace(
     requires { ⌜ Marked (now sheet) entry from (now masks) × (length (now pairs) ≡ 4096) ⌝ }
     requires { ⌜ Table (machineAt (now sheet) entry) from (length (now masks)) 0 (now table) ⌝ }
     requires { ⌜ bound ≡ request (machineAt (now sheet) entry) from (length (now masks)) ⌝ }
-    ensures { λ r. ⌜ Holds (markedSequence (now (sheet .entry)) entry from (now (masks .entry))) r (now (pairs .exit)) ⌝ }
+    ensures { λ r. ⌜ Holds (markedSequence (now (sheet .entry)) entry from (now (masks .entry))) r
+        (now (pairs .exit)) ⌝ }
 {
     let mut leaves = Leaves::Any;
     let mut left = bound;

@@ -8,7 +8,7 @@ ghost use lib.ListN.{length};
 ghost use Rattle.model.specs.Machine.{machineOf};
 ghost use Rattle.sheet.specs.Format.{decode};
 ghost use Rattle.window.specs.Window.{paper};
-ghost use Rattle.window.proofs.Asked.{Proper};
+ghost use Rattle.window.specs.Inside.{Proper};
 ghost use Rattle.critical.specs.Critical.{sequenceOf, criticalReply, criticalWords, HoldsCritical};
 ghost use Rattle.critical.specs.Inside.{Marked, markedSequence, Holds};
 use sheet::Refusal;
@@ -57,7 +57,8 @@ fn find(sheet: &[u8], machine: usize, from: u32, to: u32, pairs: &mut [u32]) -> 
 // and one for the window's end.
 fn find_marked(sheet: &[u8], entry: Entry, from: u32, masks: &[u32], pairs: &mut [u32]) -> usize
     requires { ⌜ Marked (now sheet) entry from (now masks) × (length (now pairs) ≡ 4096) ⌝ }
-    ensures { λ r. ⌜ Holds (markedSequence (now (sheet .entry)) entry from (now (masks .entry))) r (now (pairs .exit)) ⌝ }
+    ensures { λ r. ⌜ Holds (markedSequence (now (sheet .entry)) entry from (now (masks .entry))) r
+        (now (pairs .exit)) ⌝ }
 {
     let mut table = [0u32; 16 * 2049];
     let first = back::fill(sheet, entry, from, masks, &mut table);

@@ -2,16 +2,16 @@
 -- Assumes nothing.
 use Prim.Native.Nat.{ℕ, suc, _+_, _*_, _≤_, _<_}
 use mathlib.Core.Path.{_≡_, refl}
-use mathlib.Core.List.{List, [], _∷_}
 use mathlib.Core.Logic.{_⊎_, inl, inr, ⊎-elim}
 use native.Mathlib.Omega.{arith}
 use lib.Dec.{leb}
 use borrow.Author.Tests.{lt-leb, le-leb, leb-true}
 use Rattle.model.specs.Machine.{Machine, count, actionOf}
-use Rattle.model.specs.Legal.{Pair, Each, Within, cost, asked, askedBy}
+use Rattle.model.specs.Legal.{Pair, Within, cost, asked, askedBy}
 use Rattle.model.specs.Legal.{IsRequestBound, IsDemandBound}
 use Rattle.model.specs.Reckon.{begins?, best, request, demand}
 use Rattle.model.proofs.Tests.{cond-cases}
+use Rattle.model.proofs.Each.{each-map}
 use Rattle.model.proofs.Largest.{largest-below}
 use Rattle.model.proofs.Onward.{Onward, legal-onward}
 use Rattle.model.proofs.Best.{best-is, best-upper, best-limit}
@@ -49,10 +49,6 @@ unfolding request best
 request-empty m s = refl
 
 -- a wider window asks no less
-each-map : {P Q : Pair → Type 0} → ((p : Pair) → P p → Q p) → (σ : List Pair) → Each P σ → Each Q σ
-each-map f [] h = tt
-each-map f (p ∷ σ) (h, hs) = (f p h, each-map f σ hs)
-
 pub request-wider : (m : Machine) (s f s′ f′ v u : ℕ) → s′ ≤ s → f ≤ f′ → IsRequestBound m s f v
     → IsRequestBound m s′ f′ u → v ≤ u
 request-wider m s f s′ f′ v u a b =

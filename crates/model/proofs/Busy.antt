@@ -21,7 +21,8 @@ use Rattle.model.proofs.Bounds.{request-is, demand-is}
 use Rattle.model.proofs.Shift.{demand-remainder}
 use Rattle.model.proofs.Verdict.{Passes, fits-fitting}
 use Rattle.model.proofs.Added.{added-le, added-sum, added-zero}
-use Rattle.model.proofs.History.{each-map, due-asked, brought, extend, Since, since-begin, since-trigger}
+use Rattle.model.proofs.Each.{each-map}
+use Rattle.model.proofs.History.{due-asked, brought, extend, Since, since-begin, since-trigger}
 use Rattle.model.proofs.Queue.{jobs-map, jobs-empty, work-tick, turn-state}
 use Rattle.model.proofs.Waiting.{Waiting, Timely, waiting-none, waiting-turn, timely-none, waiting-trigger}
 

@@ -9,15 +9,8 @@ use Rattle.model.specs.Legal.{Instant, MayBegin, Pair, Taken, Chain, Leg
 use Rattle.model.specs.Reckon.{pair}
 use Rattle.model.specs.Run.{Seat, Choice, rest, fire, Allowed, trigger}
 use Rattle.model.specs.Inside.{Closed, Separate}
+use Rattle.model.proofs.Each.{each-map, each-snoc}
 use Rattle.model.proofs.Bounds.{askedBy-due}
-
-pub each-map : {P Q : Pair → Type 0} → ((p : Pair) → P p → Q p) → (l : List Pair) → Each P l → Each Q l
-each-map f [] h = tt
-each-map f (p ∷ l) (h, hs) = (f p h, each-map f l hs)
-
-pub each-snoc : (P : Pair → Type 0) (l : List Pair) (n : Pair) → Each P l → P n → Each P (l ++ (n ∷ []))
-each-snoc P [] n h g = (g, tt)
-each-snoc P (p ∷ l) n (h, hs) g = (h, each-snoc P l n hs g)
 
 -- the machine is in state q after the sequence: a state that a first pair may leave, or the last sink
 abbrev pub EndsIn : Machine → List Pair → ℕ → Type 0

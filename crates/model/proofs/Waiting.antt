@@ -11,7 +11,8 @@ use Rattle.model.specs.Reckon.{pair}
 use Rattle.model.specs.Run.{Job, job, Seat, Choice, rest, fire, MayFire, Allowed, join, trigger, work, turn}
 use Rattle.model.specs.Run.{EachJob, InTime}
 use Rattle.model.specs.Inside.{Separate}
-use Rattle.model.proofs.History.{each-snoc, DueBy, extend, Since, since-due}
+use Rattle.model.proofs.Each.{each-snoc}
+use Rattle.model.proofs.History.{DueBy, extend, Since, since-due}
 use Rattle.model.proofs.Queue.{jobs-snoc, jobs-serve}
 
 -- action k, triggered at r before t, has the work w left, and the history l is due by the time that it is

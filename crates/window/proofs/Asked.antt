@@ -12,11 +12,11 @@ use Rattle.sheet.specs.Format.{machineCount}
 use Rattle.sheet.specs.Reply.{refusal}
 use Rattle.sheet.specs.Rules.{unless}
 use Rattle.sheet.specs.Check.{refusalOf}
-use Rattle.sheet.specs.Inside.{Accepted}
 use Rattle.sheet.proofs.First.{unless-none, orElse-none, orElse-found, orElse-clear}
 use Rattle.sheet.proofs.Tests.{both}
 use Rattle.sheet.proofs.Answer.{not-refused}
 use Rattle.window.specs.Window.{windowInRange, rule10, rule11, questionRefusal}
+use Rattle.window.specs.Inside.{Proper}
 
 module _ (b : List ℕ) (i s f : ℕ) where
   pub question-sheet : {r : Refusal} → refusalOf b ≡ some r → questionRefusal b i s f ≡ some r
@@ -38,14 +38,6 @@ module _ (b : List ℕ) (i s f : ℕ) where
 
   pub question-kept : refusalOf b ≡ none → i < machineCount b → windowInRange s f ≡ true → questionRefusal b i s f ≡ none
   question-kept e l w = in-sheet e l ∙ ap (λ t. unless t (refusal 11 0 0)) w
-
--- what a proper question gives
-pub record Proper (b : List ℕ) (i s f : ℕ) : Type 0 where
-  pub accepted : Accepted b
-  pub known : i < machineCount b
-  pub forward : s ≤ f
-  pub short : f ≤ s + 2048
-  pub near : f ≤ 1000000
 
 pub proper : (b : List ℕ) (i s f : ℕ) → questionRefusal b i s f ≡ none → Proper b i s f
 unfolding questionRefusal

@@ -1,0 +1,29 @@
+// Answers a stream of questions about sheets with what the library's calls give, so that another program can compare
+// every reply and every lent word. Standard input: how many questions, then each question (question.rt). Standard
+// output: for each, the reply (reply.rt), and after a call that is lent words these words and the guards around them
+// (words.rt). Numbers are words of 32 bits, little-endian. At a question that is none the program stops.
+mod question;
+mod reply;
+mod words;
+
+use libc::STDIN_FILENO;
+use number::read_le32;
+
+fn main() {
+    let mut first = [0u8; 4];
+    if io::read_full(STDIN_FILENO, &mut first) < 4 {
+        return;
+    }
+    let questions = read_le32(&first, 0);
+    // The room for a sheet, for the lent words with their guards, and for what is written of a question.
+    let mut sheet = [0u8; 4096];
+    let mut words = [0u32; 4128];
+    let mut bytes = [0u8; 24 + 4 * 4128];
+    let mut answered = 0;
+    while answered < questions {
+        if !question::answer_next(&mut sheet, &mut words, &mut bytes) {
+            return;
+        }
+        answered += 1;
+    }
+}

@@ -1,0 +1,80 @@
+// A reply: six words, which are its number, how many values it has, and four values, 0 where there are fewer. A proper
+// result has number 0; the verdict Open has 13; a refusal has its own number, and its place for values.
+use crate::question::Question;
+use bounds::Tabled;
+use sheet::Checked;
+use sheet::Refusal;
+use verdict::Verdict;
+use window::Answer;
+
+pub(crate) type Reply = [u32; 6];
+
+// The reply to a question whose call is lent no words.
+pub(crate) fn reply(question: Question, sheet: &[u8]) -> Reply {
+    let machine = question.machine;
+    let from = question.from;
+    let to = question.to;
+    let call = question.call;
+    match call {
+        0 => checked(sheet::check(sheet)),
+        1 => answered(bounds::request(sheet, machine, from, to)),
+        2 => answered(bounds::demand(sheet, machine, from, to)),
+        5 => answered(plain::plain(sheet, machine, from, to)),
+        _ => judged(verdict::judge(sheet)),
+    }
+}
+
+// The reply to a question whose call is lent words, which it may write.
+pub(crate) fn reply_in(question: Question, sheet: &[u8], words: &mut [u32]) -> Reply {
+    let machine = question.machine;
+    let from = question.from;
+    let to = question.to;
+    if question.call == 3 {
+        return tabled(bounds::table(sheet, machine, from, to, words));
+    }
+    answered(critical::critical(sheet, machine, from, to, words))
+}
+
+fn refused(refusal: Refusal) -> Reply {
+    [refusal.number, 2, refusal.first, refusal.second, 0, 0]
+}
+
+fn checked(reply: Checked) -> Reply {
+    match reply {
+        Checked::Accepted {
+            machines,
+            hyperperiod,
+        } => [0, 2, machines, hyperperiod, 0, 0],
+        Checked::Refused(refusal) => refused(refusal),
+    }
+}
+
+fn answered(reply: Answer) -> Reply {
+    match reply {
+        Answer::Value(value) => [0, 1, value, 0, 0, 0],
+        Answer::Refused(refusal) => refused(refusal),
+    }
+}
+
+fn tabled(reply: Tabled) -> Reply {
+    match reply {
+        Tabled::Filled => [0, 0, 0, 0, 0, 0],
+        Tabled::Refused(refusal) => refused(refusal),
+    }
+}
+
+fn judged(reply: Verdict) -> Reply {
+    match reply {
+        Verdict::Fits => [0, 0, 0, 0, 0, 0],
+        Verdict::Late(window) => [
+            0,
+            4,
+            window.machine,
+            window.start,
+            window.length,
+            window.demand,
+        ],
+        Verdict::Open { machine, start } => [13, 2, machine, start, 0, 0],
+        Verdict::Refused(refusal) => refused(refusal),
+    }
+}
