@@ -1,6 +1,7 @@
 //! Sheets to compare programs with, and how they spread over replies and verdicts.
 
 pub mod border;
+pub mod calls;
 pub mod damaged;
 pub mod extreme;
 mod layout;

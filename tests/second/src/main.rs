@@ -1,12 +1,14 @@
 //! The program: `fit` and `ask` read a sheet on standard input, the others make their own.
 
-use second::{compare, generate, simulate, text};
-use std::io::{self, Read};
-use std::process::ExitCode;
+use second::{compare, generate, replies, simulate, stream, text};
+use std::io::{self, BufReader, BufWriter, Read};
+use std::process::{Command, ExitCode};
 
 const USAGE: &str = "usage: second fit
        second ask QUESTION MACHINE START END
+       second answer
        second compare PROGRAM SEED COUNT
+       second replies PROGRAM SEED COUNT
        second sheets SEED COUNT
        second simulate SEED COUNT";
 
@@ -35,8 +37,14 @@ fn answer(words: &[String]) -> Option<Result<String, String>> {
     match names[..] {
         ["fit"] => Some(Ok(text::fit(&sheet()))),
         ["ask", ..] => Some(Ok(text::ask(&sheet(), &words[1..]))),
+        ["answer"] => Some(answer_stream()),
         ["compare", program, seed, count] => Some(compare::fit(
             program,
+            seed.parse().ok()?,
+            count.parse().ok()?,
+        )),
+        ["replies", program, seed, count] => Some(replies::compare(
+            || Command::new(program),
             seed.parse().ok()?,
             count.parse().ok()?,
         )),
@@ -59,4 +67,13 @@ fn sheet() -> Vec<u8> {
     // What could be read before a failing input is the sheet.
     let _ = input.read_to_end(&mut bytes);
     bytes
+}
+
+/// Replies to the calls on standard input, on standard output.
+fn answer_stream() -> Result<String, String> {
+    let (calls, replies) = (io::stdin().lock(), io::stdout().lock());
+    match stream::answer(BufReader::new(calls), BufWriter::new(replies)) {
+        Ok(()) => Ok(String::new()),
+        Err(error) => Err(error.to_string()),
+    }
 }

@@ -31,6 +31,11 @@ impl Kind {
             Kind::Plain => "plain",
         }
     }
+
+    /// Whether words are lent for the answer.
+    pub fn writes(self) -> bool {
+        matches!(self, Kind::Table | Kind::Critical)
+    }
 }
 
 #[derive(Debug, Clone, Copy, PartialEq, Eq)]

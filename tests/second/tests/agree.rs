@@ -3,7 +3,7 @@
 mod common;
 
 use common::machine;
-use second::back::{bound, Count};
+use second::back::{bound, table, Count};
 use second::critical::{by_definition, by_rows};
 use second::generate::{border, extreme, uneven, valid};
 use second::legal::{each, is_legal, total, Pair};
@@ -66,6 +66,19 @@ fn bounds_are_those_of_all_legal_sequences() {
         let later = sequences(&machine, start, end + 1);
         let most = later.iter().map(counted).max();
         assert_eq!(Some(bound(&machine, Count::Demand, start, end)), most);
+    }
+}
+
+#[test]
+fn tables_are_the_requests_of_each_length() {
+    let mut random = Random::new(17);
+    for _ in 0..300 {
+        let machine = small(&mut random);
+        let start = random.within(0..=20);
+        let longest = random.within(0..=30);
+        let request = |n| bound(&machine, Count::Request, start, start + n);
+        let right: Vec<u32> = (0..=longest).map(request).collect();
+        assert_eq!(table(&machine, start, longest), right);
     }
 }
 

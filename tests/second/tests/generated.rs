@@ -1,6 +1,6 @@
 //! The generated sheets and questions reach every reply, and every sort of place.
 
-use second::generate::{self, questions, valid};
+use second::generate::{self, calls::calls, valid};
 use second::random::Random;
 use second::sheet::{check, Refusal};
 use second::verdict::{swift_walk, Verdict};
@@ -45,16 +45,14 @@ fn sheets_reach_every_reply_and_place() {
 }
 
 #[test]
-fn questions_reach_every_refusal() {
+fn calls_reach_every_refusal() {
     let mut random = Random::new(22);
     let mut replies: HashMap<u32, u32> = HashMap::new();
     for _ in 0..150 {
         let sheet = check(&write(&valid::machines(&mut random))).expect("a valid sheet");
-        for _ in 0..20 {
-            let (question, lent_words) = questions::question(&mut random, &sheet);
-            let reply = question.answer(&sheet, lent_words);
-            let number = reply.map_or_else(|refusal| refusal.number, |_| 0);
-            *replies.entry(number).or_default() += 1;
+        let checked = Ok(sheet);
+        for call in calls(&mut random, &checked) {
+            *replies.entry(call.reply(&checked).number).or_default() += 1;
         }
     }
     for number in [0, 10, 11, 12, 14] {

@@ -172,7 +172,7 @@ fn change_length(bytes: &mut Vec<u8>, random: &mut Random) {
         // Bytes come before it: a few, or all there is room for, or just too many.
         3 => length + 1 + random.place(16),
         4 => LONGEST.max(length),
-        _ => LONGEST + 1,
+        _ => random.pick(&[0, LONGEST + 1, LONGEST + 1, 4_096]),
     };
     bytes.reverse();
     bytes.resize(kept, 0);
