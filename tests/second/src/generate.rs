@@ -9,6 +9,7 @@ pub mod questions;
 mod rates;
 pub mod uneven;
 pub mod valid;
+pub mod words;
 
 use crate::random::Random;
 use crate::sheet::check;

@@ -7,7 +7,7 @@ use std::process::{Command, ExitCode};
 const USAGE: &str = "usage: second fit
        second ask QUESTION MACHINE START END
        second answer
-       second compare PROGRAM SEED COUNT
+       second compare fit|ask PROGRAM SEED COUNT
        second replies PROGRAM SEED COUNT
        second sheets SEED COUNT
        second simulate SEED COUNT";
@@ -38,7 +38,12 @@ fn answer(words: &[String]) -> Option<Result<String, String>> {
         ["fit"] => Some(Ok(text::fit(&sheet()))),
         ["ask", ..] => Some(Ok(text::ask(&sheet(), &words[1..]))),
         ["answer"] => Some(answer_stream()),
-        ["compare", program, seed, count] => Some(compare::fit(
+        ["compare", "fit", program, seed, count] => Some(compare::fit(
+            program,
+            seed.parse().ok()?,
+            count.parse().ok()?,
+        )),
+        ["compare", "ask", program, seed, count] => Some(compare::ask(
             program,
             seed.parse().ok()?,
             count.parse().ok()?,
@@ -52,10 +57,9 @@ fn answer(words: &[String]) -> Option<Result<String, String>> {
             seed.parse().ok()?,
             count.parse().ok()?,
         ))),
-        ["simulate", seed, count] => Some(Ok(simulate::report(
-            seed.parse().ok()?,
-            count.parse().ok()?,
-        ))),
+        ["simulate", seed, count] => {
+            Some(simulate::report(seed.parse().ok()?, count.parse().ok()?))
+        }
         _ => None,
     }
 }

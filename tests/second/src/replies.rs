@@ -7,6 +7,7 @@ use crate::generate;
 use crate::random::Random;
 use crate::sheet::{check, Refusal, Sheet};
 use crate::stream::{put, put_words, reply_bytes};
+use crate::text::hexadecimal;
 use counts::Counts;
 use std::io::{BufReader, Read, Write};
 use std::process::{Command, Stdio};
@@ -116,11 +117,7 @@ pub fn compare_replies(
 }
 
 fn difference(case: &Case, call: &Call, theirs: &[u8], mine: &[u8]) -> String {
-    let sheet: String = case
-        .bytes
-        .iter()
-        .map(|byte| format!("{byte:02X}"))
-        .collect();
+    let sheet = hexadecimal(&case.bytes);
     let (theirs, mine) = (words(theirs), words(mine));
     let place = theirs
         .iter()

@@ -4,9 +4,10 @@ mod common;
 
 use common::PAIR;
 use second::call::Call;
+use second::compare;
 use second::question::{Kind, Question};
 use second::replies::counts::Counts;
-use second::replies::{compare, compare_replies, stream, Case};
+use second::replies::{self, compare_replies, stream, Case};
 use second::sheet::check;
 use second::stream::answer;
 use std::process::Command;
@@ -150,18 +151,20 @@ fn this_program() -> Command {
 
 #[test]
 fn a_program_is_compared_on_every_reply() {
-    let counts = compare(this_program, 41, 1_000).expect("the two are one program");
+    let counts = replies::compare(this_program, 41, 1_000).expect("the two are one program");
     assert!(
         counts.starts_with("1000 sheets, the same replies\n"),
         "{counts}"
     );
     // So few sheets cannot show every reply.
-    let missing = compare(this_program, 41, 3).expect_err("most replies never came");
+    let missing = replies::compare(this_program, 41, 3).expect_err("most replies never came");
     assert!(missing.contains("never seen: "), "{missing}");
 }
 
 #[test]
 fn a_program_that_says_nothing_differs() {
-    assert!(compare(|| Command::new("true"), 42, 3).is_err());
-    assert!(compare(|| Command::new("no-such-program"), 42, 3).is_err());
+    assert!(compare::fit("true", 42, 3).is_err());
+    assert!(compare::ask("true", 42, 3).is_err());
+    assert!(replies::compare(|| Command::new("true"), 42, 3).is_err());
+    assert!(replies::compare(|| Command::new("no-such-program"), 42, 3).is_err());
 }
