@@ -1,11 +1,12 @@
 //! What another program prints beside what this one does, on sheets of every sort.
 
 use crate::generate::{self, words::words};
+use crate::process;
 use crate::random::Random;
 use crate::sheet::check;
 use crate::text;
-use std::io::{self, Write};
-use std::process::{Command, Stdio};
+use std::io::{self, Read};
+use std::process::Command;
 
 /// How many sheets `fit` was run on, or the first on which the two differ.
 pub fn fit(program: &str, seed: u64, count: u32) -> Result<String, String> {
@@ -49,14 +50,13 @@ fn same(program: &str, words: &[String], sheet: &[u8], mine: &str) -> Result<(),
 
 /// What the program prints for these words and a sheet on standard input.
 fn printed(program: &str, words: &[String], sheet: &[u8]) -> io::Result<Vec<u8>> {
-    let mut child = Command::new(program)
-        .args(words)
-        .stdin(Stdio::piped())
-        .stdout(Stdio::piped())
-        .spawn()?;
-    let mut input = child.stdin.take().expect("standard input is a pipe");
-    // A program may stop reading before the end of a long input.
-    let _ = input.write_all(sheet);
-    drop(input);
-    Ok(child.wait_with_output()?.stdout)
+    let (text, _) = process::run(
+        Command::new(program).args(words),
+        sheet.to_vec(),
+        |mut output| {
+            let mut text = Vec::new();
+            output.read_to_end(&mut text).map(|_| text)
+        },
+    )?;
+    text
 }

@@ -4,6 +4,7 @@ pub mod border;
 pub mod calls;
 pub mod damaged;
 pub mod extreme;
+pub mod heavy;
 mod layout;
 pub mod questions;
 mod rates;

@@ -1,6 +1,6 @@
 //! The program: `fit` and `ask` read a sheet on standard input, the others make their own.
 
-use second::{compare, generate, replies, simulate, stream, text};
+use second::{benchmark, compare, generate, replies, simulate, stream, text};
 use std::io::{self, BufReader, BufWriter, Read};
 use std::process::{Command, ExitCode};
 
@@ -10,7 +10,8 @@ const USAGE: &str = "usage: second fit
        second compare fit|ask PROGRAM SEED COUNT
        second replies PROGRAM SEED COUNT
        second sheets SEED COUNT
-       second simulate SEED COUNT";
+       second simulate SEED COUNT
+       second benchmark PROGRAM SHEET...";
 
 fn main() -> ExitCode {
     // A word that is no text at all becomes one that is no number and no name.
@@ -34,34 +35,28 @@ fn main() -> ExitCode {
 
 fn answer(words: &[String]) -> Option<Result<String, String>> {
     let names: Vec<&str> = words.iter().map(String::as_str).collect();
-    match names[..] {
-        ["fit"] => Some(Ok(text::fit(&sheet()))),
-        ["ask", ..] => Some(Ok(text::ask(&sheet(), &words[1..]))),
-        ["answer"] => Some(answer_stream()),
-        ["compare", "fit", program, seed, count] => Some(compare::fit(
-            program,
-            seed.parse().ok()?,
-            count.parse().ok()?,
-        )),
-        ["compare", "ask", program, seed, count] => Some(compare::ask(
-            program,
-            seed.parse().ok()?,
-            count.parse().ok()?,
-        )),
-        ["replies", program, seed, count] => Some(replies::compare(
-            || Command::new(program),
-            seed.parse().ok()?,
-            count.parse().ok()?,
-        )),
-        ["sheets", seed, count] => Some(Ok(generate::statistics(
-            seed.parse().ok()?,
-            count.parse().ok()?,
-        ))),
-        ["simulate", seed, count] => {
-            Some(simulate::report(seed.parse().ok()?, count.parse().ok()?))
-        }
-        _ => None,
-    }
+    let answer = match names[..] {
+        ["fit"] => Ok(text::fit(&sheet())),
+        ["ask", ..] => Ok(text::ask(&sheet(), &words[1..])),
+        ["answer"] => answer_stream(),
+        ["benchmark", program, ref files @ ..] => benchmark::table(program, files),
+        [ref name @ .., seed, count] => seeded(name, seed.parse().ok()?, count.parse().ok()?)?,
+        _ => return None,
+    };
+    Some(answer)
+}
+
+/// What is made from a seed, so many times.
+fn seeded(name: &[&str], seed: u64, count: u32) -> Option<Result<String, String>> {
+    let answer = match name {
+        ["compare", "fit", program] => compare::fit(program, seed, count),
+        ["compare", "ask", program] => compare::ask(program, seed, count),
+        ["replies", program] => replies::compare(|| Command::new(program), seed, count),
+        ["sheets"] => Ok(generate::statistics(seed, count)),
+        ["simulate"] => simulate::report(seed, count),
+        _ => return None,
+    };
+    Some(answer)
 }
 
 /// The sheet on standard input, as much of it as is ever looked at.

@@ -4,14 +4,14 @@ pub mod counts;
 
 use crate::call::Call;
 use crate::generate;
+use crate::process;
 use crate::random::Random;
 use crate::sheet::{check, Refusal, Sheet};
 use crate::stream::{put, put_words, reply_bytes};
 use crate::text::hexadecimal;
 use counts::Counts;
-use std::io::{BufReader, Read, Write};
-use std::process::{Command, Stdio};
-use std::thread;
+use std::io::{BufReader, Read};
+use std::process::Command;
 
 /// Sheets for one run of the program, so that a long comparison takes little memory.
 const SHEETS_A_RUN: u32 = 200;
@@ -54,21 +54,9 @@ pub fn case(random: &mut Random) -> Case {
 
 /// One run of the program on all calls of these cases.
 fn compare_run(mut program: Command, cases: &[Case], counts: &mut Counts) -> Result<(), String> {
-    let piped = program.stdin(Stdio::piped()).stdout(Stdio::piped());
-    let mut child = piped.spawn().map_err(|error| error.to_string())?;
-    let mut input = child.stdin.take().expect("standard input is a pipe");
-    let output = child.stdout.take().expect("standard output is a pipe");
-    let calls = stream(cases);
-    // Written beside the reading, so that neither program waits for the other; one that stops
-    // early is seen by its replies.
-    let feeder = thread::spawn(move || input.write_all(&calls));
-    let compared = compare_replies(cases, BufReader::new(output), counts);
-    if compared.is_err() {
-        // It need not answer what is left, and may have ended by itself.
-        let _ = child.kill();
-    }
-    let _ = feeder.join();
-    let ended = child.wait().map_err(|error| error.to_string())?;
+    let compare = |replies| compare_replies(cases, BufReader::new(replies), counts);
+    let run = process::run(&mut program, stream(cases), compare);
+    let (compared, ended) = run.map_err(|error| error.to_string())?;
     compared?;
     if ended.success() {
         Ok(())

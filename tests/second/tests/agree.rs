@@ -10,7 +10,7 @@ use second::legal::{each, is_legal, total, Pair};
 use second::plain::plain;
 use second::random::Random;
 use second::sheet::{check, hyperperiod, Machine, Sheet};
-use second::verdict::{plain_walk, swift_walk, verdict, Verdict, Window};
+use second::verdict::{plain_walk, same_method, swift_walk, verdict, Verdict, Window};
 use second::write::write;
 
 /// A machine with few states and actions, many ties, and one of a few short periods each.
@@ -130,7 +130,7 @@ fn bounds_repeat_with_the_hyperperiod() {
 }
 
 #[test]
-fn the_three_verdicts_agree() {
+fn all_verdicts_agree() {
     let mut random = Random::new(15);
     for round in 0..800 {
         let machines = match round % 8 {
@@ -139,9 +139,11 @@ fn the_three_verdicts_agree() {
             5..=6 => uneven::machines(&mut random),
             _ => extreme::machines(&mut random),
         };
-        let sheet = check(&write(&machines)).expect("a valid sheet");
+        let bytes = write(&machines);
+        let sheet = check(&bytes).expect("a valid sheet");
         let right = verdict(&sheet);
         assert_eq!(plain_walk(&sheet), right, "{sheet:?}");
+        assert_eq!(same_method(&bytes, &sheet), right, "{sheet:?}");
         assert_eq!(swift_walk(&sheet), right, "{sheet:?}");
     }
 }
