@@ -8,7 +8,7 @@ use crate::sheet::{Refusal, Sheet};
 use crate::stream::MOST_LENT;
 
 /// Questions of each kind about a sheet that is accepted.
-const OF_EACH_KIND: u32 = 3;
+const OF_EACH_KIND: u32 = 4;
 
 pub fn calls(random: &mut Random, checked: &Result<Sheet, Refusal>) -> Vec<Call> {
     let sheet = checked.as_ref().ok();

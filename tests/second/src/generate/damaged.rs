@@ -18,7 +18,7 @@ pub fn sheet(random: &mut Random) -> Vec<u8> {
     sheet.bytes
 }
 
-const FAULTS: [fn(&mut Layout, &mut Random); 13] = [
+const FAULTS: [fn(&mut Layout, &mut Random); 14] = [
     flip_bits,
     spoil_mark,
     spoil_count,
@@ -32,6 +32,7 @@ const FAULTS: [fn(&mut Layout, &mut Random); 13] = [
     spoil_deadline,
     spoil_period,
     spoil_period,
+    stretch,
 ];
 
 /// Numbers around which 32-bit sums go wrong.
@@ -154,6 +155,25 @@ fn spoil_period(sheet: &mut Layout, random: &mut Random) {
     if random.percent(80) {
         for action in 0..sheet.machines[machine].actions.len() {
             sheet.put_half(sheet.action(machine, action) + 6, 1);
+        }
+    }
+}
+
+/// Periods whose least common multiple is just above what H may be, or just not.
+fn stretch(sheet: &mut Layout, random: &mut Random) {
+    let periods = random.pick(&[
+        [25, 41],
+        [27, 38],
+        [32, 33],
+        [64, 17],
+        [31, 33],
+        [512, 1_024],
+    ]);
+    for machine in 0..sheet.machines.len() {
+        for action in 0..sheet.machines[machine].actions.len() {
+            let place = sheet.action(machine, action);
+            sheet.put_half(place + 2, random.pick(&periods));
+            sheet.put_half(place + 6, 1);
         }
     }
 }
