@@ -1,8 +1,8 @@
 //! The generated sheets and questions reach every reply, and every sort of place.
 
-use second::generate::{self, calls::calls, valid};
+use second::generate::{self, calls::calls, heavy, valid};
 use second::random::Random;
-use second::sheet::{check, Refusal};
+use second::sheet::{check, Refusal, LONGEST};
 use second::verdict::{swift_walk, Verdict};
 use second::write::write;
 use std::collections::HashMap;
@@ -62,6 +62,14 @@ fn calls_reach_every_refusal() {
         );
     }
     assert_eq!(replies.len(), 5);
+}
+
+#[test]
+fn heavy_sheets_are_the_largest_and_fit() {
+    let machines = heavy::machines(&mut Random::new(25));
+    let bytes = write(&machines);
+    assert_eq!(bytes.len(), LONGEST);
+    assert_eq!(check(&bytes).map(|s| swift_walk(&s)), Ok(Verdict::Fits));
 }
 
 #[test]
