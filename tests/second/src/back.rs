@@ -3,7 +3,7 @@
 //! For each tick and state the best total of the rest of the window is kept; a tick's totals
 //! follow from those of the next tick: wait, or take one action that has an instant now.
 
-use crate::sheet::{Action, Machine, MOST_STATES};
+use crate::sheet::{Action, Instant, Machine, MOST_STATES};
 
 /// The best total from each state on.
 pub type Row = [u32; MOST_STATES];
@@ -58,6 +58,34 @@ pub fn rows(machine: &Machine, count: Count, start: u32, end: u32) -> Vec<Row> {
 /// The bound itself: the first pair may have any source state.
 pub fn bound(machine: &Machine, count: Count, start: u32, end: u32) -> u32 {
     best(&rows(machine, count, start, end)[0])
+}
+
+/// The request bounds of `[start, start + n)` for n from 0 to `longest`, each searched on its own.
+pub fn table(machine: &Machine, start: u32, longest: u32) -> Vec<u32> {
+    let instants = machine.instants(start, start + longest);
+    let mut bounds = vec![0];
+    let mut inside = 0;
+    for end in start + 1..=start + longest {
+        let another = instants.get(inside).is_some_and(|at| at.tick < end);
+        inside += usize::from(another);
+        // A window that has no instant more has no sequence more.
+        let same = bounds[bounds.len() - 1];
+        bounds.push(if another {
+            request_over(&instants[..inside])
+        } else {
+            same
+        });
+    }
+    bounds
+}
+
+/// The request bound of a window that holds just these instants.
+fn request_over(instants: &[Instant]) -> u32 {
+    let from_next = |next: Row, at: &Instant| {
+        let actions = at.actions.iter().map(|(_, action)| *action);
+        step(&next, actions, |action| action.time)
+    };
+    best(&instants.iter().rev().fold([0; MOST_STATES], from_next))
 }
 
 pub fn best(row: &Row) -> u32 {

@@ -1,6 +1,6 @@
 //! The five questions about one machine, with refusals 10, 11, 14 and 12 in that order.
 
-use crate::back::{bound, Count};
+use crate::back::{self, bound, Count};
 use crate::critical;
 use crate::legal::Pair;
 use crate::plain;
@@ -35,10 +35,7 @@ pub fn table(
     if (longest as usize) + 1 > lent_words {
         return Err(Refusal::new(12));
     }
-    let ends = start..=start + longest;
-    Ok(ends
-        .map(|end| bound(machine, Count::Request, start, end))
-        .collect())
+    Ok(back::table(machine, start, longest))
 }
 
 /// The critical sequence of `[start, end)`, two words a pair.

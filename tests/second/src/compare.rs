@@ -1,36 +1,62 @@
-//! Another program's `fit` beside this one's, on sheets of every sort.
+//! What another program prints beside what this one does, on sheets of every sort.
 
+use crate::generate::{self, words::words};
+use crate::process;
 use crate::random::Random;
-use crate::{generate, text};
-use std::io::{self, Write};
-use std::process::{Command, Stdio};
+use crate::sheet::check;
+use crate::text;
+use std::io::{self, Read};
+use std::process::Command;
 
-/// How many sheets were compared, or the first on which the two differ.
+/// How many sheets `fit` was run on, or the first on which the two differ.
 pub fn fit(program: &str, seed: u64, count: u32) -> Result<String, String> {
     let mut random = Random::new(seed);
-    for number in 0..count {
+    for _ in 0..count {
         let sheet = generate::sheet(&mut random);
-        let mine = text::fit(&sheet);
-        let theirs = printed(program, &sheet).map_err(|error| format!("{program}: {error}"))?;
-        if theirs != mine.as_bytes() {
-            let theirs = String::from_utf8_lossy(&theirs);
-            return Err(format!(
-                "sheet {number} of seed {seed}: {sheet:?}\n{program} prints\n{theirs}and not\n{mine}"
-            ));
-        }
+        same(program, &[], &sheet, &text::fit(&sheet))?;
     }
-    Ok(format!("{count} sheets, one answer each\n"))
+    Ok(format!("{count} sheets, one text each\n"))
 }
 
-/// What the program prints for a sheet on standard input.
-fn printed(program: &str, sheet: &[u8]) -> io::Result<Vec<u8>> {
-    let mut child = Command::new(program)
-        .stdin(Stdio::piped())
-        .stdout(Stdio::piped())
-        .spawn()?;
-    let mut input = child.stdin.take().expect("standard input is a pipe");
-    // A program may stop reading before the end of a long input.
-    let _ = input.write_all(sheet);
-    drop(input);
-    Ok(child.wait_with_output()?.stdout)
+/// How many questions `ask` was run on, or the first on which the two differ.
+pub fn ask(program: &str, seed: u64, count: u32) -> Result<String, String> {
+    let mut random = Random::new(seed);
+    let (mut refused, mut no_question) = (0, 0);
+    for _ in 0..count {
+        let sheet = generate::sheet(&mut random);
+        let words = words(&mut random, check(&sheet).as_ref().ok());
+        let mine = text::ask(&sheet, &words);
+        same(program, &words, &sheet, &mine)?;
+        refused += u32::from(mine.starts_with("REFUSED"));
+        no_question += u32::from(mine == text::USAGE);
+    }
+    Ok(format!(
+        "{count} questions, one text each: {refused} refused, {no_question} that are none\n"
+    ))
+}
+
+/// An error where the program prints another text.
+fn same(program: &str, words: &[String], sheet: &[u8], mine: &str) -> Result<(), String> {
+    let theirs = printed(program, words, sheet).map_err(|error| format!("{program}: {error}"))?;
+    if theirs == mine.as_bytes() {
+        return Ok(());
+    }
+    let theirs = String::from_utf8_lossy(&theirs);
+    Err(format!(
+        "{program} {words:?} prints\n{theirs}and not\n{mine}for the sheet {}",
+        text::hexadecimal(sheet)
+    ))
+}
+
+/// What the program prints for these words and a sheet on standard input.
+fn printed(program: &str, words: &[String], sheet: &[u8]) -> io::Result<Vec<u8>> {
+    let (text, _) = process::run(
+        Command::new(program).args(words),
+        sheet.to_vec(),
+        |mut output| {
+            let mut text = Vec::new();
+            output.read_to_end(&mut text).map(|_| text)
+        },
+    )?;
+    text
 }

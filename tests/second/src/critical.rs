@@ -8,8 +8,7 @@ use crate::sheet::Machine;
 const SMALL: usize = 3;
 
 pub fn critical(machine: &Machine, start: u32, end: u32) -> Vec<Pair> {
-    let instants = (start..end).filter(|&tick| machine.has_instant(tick));
-    if instants.count() <= SMALL {
+    if machine.instants(start, end).len() <= SMALL {
         by_definition(machine, start, end)
     } else {
         by_rows(machine, start, end)

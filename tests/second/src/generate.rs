@@ -1,13 +1,16 @@
 //! Sheets to compare programs with, and how they spread over replies and verdicts.
 
 pub mod border;
+pub mod calls;
 pub mod damaged;
 pub mod extreme;
+pub mod heavy;
 mod layout;
 pub mod questions;
 mod rates;
 pub mod uneven;
 pub mod valid;
+pub mod words;
 
 use crate::random::Random;
 use crate::sheet::check;

@@ -1,6 +1,6 @@
 //! Legal sequences, straight from their definition.
 
-use crate::sheet::Machine;
+use crate::sheet::{Instant, Machine};
 use std::cmp::Ordering;
 
 /// An action and the instant at which it is triggered.
@@ -34,13 +34,13 @@ pub fn compare(left: &[Pair], right: &[Pair]) -> Ordering {
 
 /// Shows every legal sequence with all instants at least `from` and below `end`.
 pub fn each(machine: &Machine, from: u32, end: u32, show: &mut dyn FnMut(&[Pair])) {
-    extend(machine, from, end, &mut Vec::new(), show);
+    let instants = machine.instants(from, end);
+    extend(machine, &instants, &mut Vec::new(), show);
 }
 
 fn extend(
     machine: &Machine,
-    from: u32,
-    end: u32,
+    instants: &[Instant],
     sequence: &mut Vec<Pair>,
     show: &mut dyn FnMut(&[Pair]),
 ) {
@@ -49,14 +49,14 @@ fn extend(
     let state = sequence
         .last()
         .map(|pair| machine.actions[pair.action].sink);
-    for instant in from..end {
-        for (number, action) in machine.actions_at(instant) {
+    for (place, instant) in instants.iter().enumerate() {
+        for &(number, action) in &instant.actions {
             if state.is_none_or(|state| state == action.source) {
                 sequence.push(Pair {
                     action: number,
-                    instant,
+                    instant: instant.tick,
                 });
-                extend(machine, instant + 1, end, sequence, show);
+                extend(machine, &instants[place + 1..], sequence, show);
                 sequence.pop();
             }
         }

@@ -8,7 +8,7 @@ pub const MOST_INSTANTS: usize = 6;
 
 /// The request bound of `[start, end)`, or nothing when the window holds too many instants.
 pub fn plain(machine: &Machine, start: u32, end: u32) -> Option<u32> {
-    let instants: Vec<u32> = (start..end).filter(|&t| machine.has_instant(t)).collect();
+    let instants = machine.instants(start, end);
     if instants.len() > MOST_INSTANTS {
         return None;
     }
@@ -16,7 +16,7 @@ pub fn plain(machine: &Machine, start: u32, end: u32) -> Option<u32> {
     let mut reached: HashSet<(usize, u32)> = (0..machine.states).map(|q| (q, 0)).collect();
     for instant in instants {
         for (state, total) in reached.clone() {
-            for (_, action) in machine.actions_at(instant) {
+            for (_, action) in &instant.actions {
                 if action.source == state {
                     reached.insert((action.sink, total + action.time));
                 }

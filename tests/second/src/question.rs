@@ -4,6 +4,9 @@ use crate::bounds;
 use crate::legal::Pair;
 use crate::sheet::{Refusal, Sheet};
 
+/// The most bytes that a word of a question may have.
+pub const LONGEST_WORD: usize = 64;
+
 #[derive(Debug, Clone, Copy, PartialEq, Eq)]
 pub enum Kind {
     Request,
@@ -30,6 +33,11 @@ impl Kind {
             Kind::Critical => "critical",
             Kind::Plain => "plain",
         }
+    }
+
+    /// Whether words are lent for the answer.
+    pub fn writes(self) -> bool {
+        matches!(self, Kind::Table | Kind::Critical)
     }
 }
 
@@ -85,6 +93,9 @@ impl Question {
 
 /// Decimal digits only: the standard reading would let a plus sign through.
 fn number(word: &str) -> Option<u32> {
-    let all_digits = !word.is_empty() && word.bytes().all(|b| b.is_ascii_digit());
-    all_digits.then(|| word.parse().ok()).flatten()
+    let right_length = (1..=LONGEST_WORD).contains(&word.len());
+    let all_digits = word.bytes().all(|b| b.is_ascii_digit());
+    (right_length && all_digits)
+        .then(|| word.parse().ok())
+        .flatten()
 }

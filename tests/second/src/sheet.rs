@@ -64,8 +64,14 @@ impl Machine {
         numbered.filter(move |(_, action)| action.has_instant(tick))
     }
 
-    pub fn has_instant(&self, tick: u32) -> bool {
-        self.actions_at(tick).next().is_some()
+    /// The machine's instants in `[start, end)`, each with the actions that have it.
+    pub fn instants(&self, start: u32, end: u32) -> Vec<Instant<'_>> {
+        let instant = |tick| Instant {
+            tick,
+            actions: self.actions_at(tick).collect(),
+        };
+        let ticks = (start..end).map(instant);
+        ticks.filter(|at| !at.actions.is_empty()).collect()
     }
 
     /// The greatest number that divides every period of the machine.
@@ -73,6 +79,12 @@ impl Machine {
         let divides_all = |d: &u32| self.actions.iter().all(|a| a.period.is_multiple_of(*d));
         (1..=MOST_TICKS).rev().find(divides_all).unwrap_or(1)
     }
+}
+
+/// A tick at which actions of a machine may be triggered, with those actions and their numbers.
+pub struct Instant<'a> {
+    pub tick: u32,
+    pub actions: Vec<(usize, &'a Action)>,
 }
 
 #[derive(Debug, Clone, PartialEq, Eq)]

@@ -5,50 +5,73 @@ mod aim;
 use crate::generate::{border, valid};
 use crate::random::Random;
 use crate::run::{Run, Trigger};
-use crate::sheet::{check, Sheet};
+use crate::sheet::{check, Machine, Sheet};
+use crate::text::hexadecimal;
 use crate::verdict::{verdict, Verdict, Window};
 use crate::write::write;
 
 const RANDOM_RUNS: u32 = 8;
 const AIMED_RUNS: u32 = 24;
 
-/// Runs so many sheets and says what was seen; a late run of a fitting sheet is an error.
-pub fn report(seed: u64, count: u32) -> String {
-    let mut random = Random::new(seed);
-    let (mut fits, mut late) = (0, 0);
-    // Late sheets seen late in the runs that fitting sheets have to stand, and in aimed ones.
-    let (mut same_runs, mut aimed_runs) = (0, 0);
-    for _ in 0..count {
-        let sheet = sheet(&mut random);
-        let late_machine = late_machine(&sheet, &mut random);
-        match verdict(&sheet) {
-            Verdict::Fits => {
-                fits += 1;
-                assert_eq!(late_machine, None, "late though it fits: {sheet:?}");
-            }
-            Verdict::Late(window) => {
-                late += 1;
-                same_runs += u32::from(late_machine.is_some());
-                aimed_runs += u32::from(can_be_late(&sheet, window, &mut random));
-            }
-            Verdict::Open { .. } => {}
-        }
-    }
-    let runs = fits * (RANDOM_RUNS + AIMED_RUNS);
-    format!(
-        "fits: {fits} sheets, {runs} runs, none late\n\
-         late: {late} sheets, {same_runs} late in such runs, \
-         {aimed_runs} in runs aimed at the window\n"
-    )
+/// What was seen of the sheets until now.
+#[derive(Default)]
+struct Seen {
+    fits: u32,
+    late: u32,
+    /// Late sheets seen late in the runs that fitting sheets have to stand.
+    same_runs: u32,
+    /// Late sheets seen late in runs aimed at the window that the verdict names.
+    aimed_runs: u32,
 }
 
-fn sheet(random: &mut Random) -> Sheet {
-    let machines = if random.percent(50) {
+/// Runs so many sheets and says what was seen; a late run of a fitting sheet is an error.
+pub fn report(seed: u64, count: u32) -> Result<String, String> {
+    let mut random = Random::new(seed);
+    let mut seen = Seen::default();
+    for _ in 0..count {
+        let machines = machines(&mut random);
+        let sheet = check(&write(&machines)).expect("a valid sheet was made");
+        let late_machine = late_machine(&sheet, &mut random);
+        match (verdict(&sheet), late_machine) {
+            (Verdict::Fits, None) => seen.fits += 1,
+            (Verdict::Fits, Some(machine)) => {
+                let sheet = hexadecimal(&write(&machines));
+                return Err(format!("machine {machine} is late though it fits: {sheet}"));
+            }
+            (Verdict::Late(window), machine) => {
+                seen.late += 1;
+                seen.same_runs += u32::from(machine.is_some());
+                seen.aimed_runs += u32::from(can_be_late(&sheet, window, &mut random));
+            }
+            (Verdict::Open { .. }, _) => {}
+        }
+    }
+    seen.text()
+}
+
+impl Seen {
+    /// An error where no sheet fits, or none that does not was seen late: then nothing is shown.
+    fn text(&self) -> Result<String, String> {
+        let runs = self.fits * (RANDOM_RUNS + AIMED_RUNS);
+        let text = format!(
+            "fits: {} sheets, {runs} runs, none late\n\
+             late: {} sheets, {} late in such runs, {} in runs aimed at the window\n",
+            self.fits, self.late, self.same_runs, self.aimed_runs
+        );
+        if self.fits > 0 && self.same_runs > 0 {
+            Ok(text)
+        } else {
+            Err(format!("{text}too few sheets to show anything"))
+        }
+    }
+}
+
+fn machines(random: &mut Random) -> Vec<Machine> {
+    if random.percent(50) {
         valid::machines(random)
     } else {
         border::machines(random)
-    };
-    check(&write(&machines)).expect("a valid sheet was made")
+    }
 }
 
 /// Looks for a late machine in runs of every sort.

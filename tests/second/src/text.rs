@@ -75,6 +75,11 @@ fn answer_lines(answer: &Answer) -> String {
     }
 }
 
+/// Bytes as two digits each.
+pub fn hexadecimal(bytes: &[u8]) -> String {
+    bytes.iter().map(|byte| format!("{byte:02X}")).collect()
+}
+
 fn refused(refusal: Refusal) -> String {
     let Refusal {
         number,

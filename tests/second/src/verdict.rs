@@ -1,15 +1,21 @@
-//! The verdict, in the words of its definition; two walks beside it give the same.
+//! The verdict, in the words of its definition; three walks beside it give the same.
 
+mod due;
+mod ones;
 mod plain_walk;
 mod remembered;
+mod same_method;
 mod swift_walk;
 
 pub use plain_walk::plain_walk;
+pub use same_method::same_method;
 pub use swift_walk::swift_walk;
 
 use crate::bounds::LONGEST_WINDOW;
-use crate::sheet::Sheet;
+use crate::sheet::{Sheet, MOST_MACHINES};
 use remembered::Remembered;
+
+const MACHINES: usize = MOST_MACHINES as usize;
 
 #[derive(Debug, Clone, Copy, PartialEq, Eq)]
 pub enum Verdict {
@@ -25,6 +31,22 @@ pub struct Window {
     pub start: u32,
     pub length: u32,
     pub demand: u32,
+}
+
+impl Verdict {
+    fn late(machine: usize, start: u32, length: u32, demand: u32) -> Self {
+        Verdict::Late(Window {
+            machine: machine as u32,
+            start,
+            length,
+            demand,
+        })
+    }
+
+    fn open(machine: usize, start: u32) -> Self {
+        let machine = machine as u32;
+        Verdict::Open { machine, start }
+    }
 }
 
 /// Machines in order, for each the starts in order; the first that does not pass decides.
@@ -62,16 +84,8 @@ fn judge(bounds: &mut [Remembered], machine: usize, start: u32) -> Option<Verdic
         let demand = bounds[machine].demand(start, end);
         let passes = (0..=length).any(|m| demand + higher[m as usize] <= m);
         if !passes {
-            return Some(Verdict::Late(Window {
-                machine: machine as u32,
-                start,
-                length,
-                demand,
-            }));
+            return Some(Verdict::late(machine, start, length, demand));
         }
     }
-    Some(Verdict::Open {
-        machine: machine as u32,
-        start,
-    })
+    Some(Verdict::open(machine, start))
 }

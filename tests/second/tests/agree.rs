@@ -3,14 +3,14 @@
 mod common;
 
 use common::machine;
-use second::back::{bound, Count};
+use second::back::{bound, table, Count};
 use second::critical::{by_definition, by_rows};
 use second::generate::{border, extreme, uneven, valid};
 use second::legal::{each, is_legal, total, Pair};
 use second::plain::plain;
 use second::random::Random;
 use second::sheet::{check, hyperperiod, Machine, Sheet};
-use second::verdict::{plain_walk, swift_walk, verdict, Verdict, Window};
+use second::verdict::{plain_walk, same_method, swift_walk, verdict, Verdict, Window};
 use second::write::write;
 
 /// A machine with few states and actions, many ties, and one of a few short periods each.
@@ -70,6 +70,19 @@ fn bounds_are_those_of_all_legal_sequences() {
 }
 
 #[test]
+fn tables_are_the_requests_of_each_length() {
+    let mut random = Random::new(17);
+    for _ in 0..300 {
+        let machine = small(&mut random);
+        let start = random.within(0..=20);
+        let longest = random.within(0..=30);
+        let request = |n| bound(&machine, Count::Request, start, start + n);
+        let right: Vec<u32> = (0..=longest).map(request).collect();
+        assert_eq!(table(&machine, start, longest), right);
+    }
+}
+
+#[test]
 fn critical_sequences_are_the_first_of_all() {
     let mut random = Random::new(12);
     for _ in 0..2_000 {
@@ -117,7 +130,7 @@ fn bounds_repeat_with_the_hyperperiod() {
 }
 
 #[test]
-fn the_three_verdicts_agree() {
+fn all_verdicts_agree() {
     let mut random = Random::new(15);
     for round in 0..800 {
         let machines = match round % 8 {
@@ -126,9 +139,11 @@ fn the_three_verdicts_agree() {
             5..=6 => uneven::machines(&mut random),
             _ => extreme::machines(&mut random),
         };
-        let sheet = check(&write(&machines)).expect("a valid sheet");
+        let bytes = write(&machines);
+        let sheet = check(&bytes).expect("a valid sheet");
         let right = verdict(&sheet);
         assert_eq!(plain_walk(&sheet), right, "{sheet:?}");
+        assert_eq!(same_method(&bytes, &sheet), right, "{sheet:?}");
         assert_eq!(swift_walk(&sheet), right, "{sheet:?}");
     }
 }

@@ -1,8 +1,8 @@
 //! The generated sheets and questions reach every reply, and every sort of place.
 
-use second::generate::{self, questions, valid};
+use second::generate::{self, calls::calls, heavy, valid};
 use second::random::Random;
-use second::sheet::{check, Refusal};
+use second::sheet::{check, Refusal, LONGEST};
 use second::verdict::{swift_walk, Verdict};
 use second::write::write;
 use std::collections::HashMap;
@@ -45,16 +45,14 @@ fn sheets_reach_every_reply_and_place() {
 }
 
 #[test]
-fn questions_reach_every_refusal() {
+fn calls_reach_every_refusal() {
     let mut random = Random::new(22);
     let mut replies: HashMap<u32, u32> = HashMap::new();
     for _ in 0..150 {
         let sheet = check(&write(&valid::machines(&mut random))).expect("a valid sheet");
-        for _ in 0..20 {
-            let (question, lent_words) = questions::question(&mut random, &sheet);
-            let reply = question.answer(&sheet, lent_words);
-            let number = reply.map_or_else(|refusal| refusal.number, |_| 0);
-            *replies.entry(number).or_default() += 1;
+        let checked = Ok(sheet);
+        for call in calls(&mut random, &checked) {
+            *replies.entry(call.reply(&checked).number).or_default() += 1;
         }
     }
     for number in [0, 10, 11, 12, 14] {
@@ -64,6 +62,14 @@ fn questions_reach_every_refusal() {
         );
     }
     assert_eq!(replies.len(), 5);
+}
+
+#[test]
+fn heavy_sheets_are_the_largest_and_fit() {
+    let machines = heavy::machines(&mut Random::new(25));
+    let bytes = write(&machines);
+    assert_eq!(bytes.len(), LONGEST);
+    assert_eq!(check(&bytes).map(|s| swift_walk(&s)), Ok(Verdict::Fits));
 }
 
 #[test]

@@ -60,6 +60,7 @@ fn a_late_sheet_can_be_made_late() {
 
 #[test]
 fn no_run_of_a_fitting_sheet_is_late() {
-    let seen = report(32, 300);
+    let seen = report(32, 300).expect("no run is late");
     assert!(seen.contains("none late"), "{seen}");
+    assert!(report(32, 0).is_err(), "no runs show nothing");
 }

@@ -45,6 +45,8 @@ fn answers() {
     assert_eq!(answer("critical 1 80 101"), "2\n0 80\n3 100\n");
     assert_eq!(answer("critical 1 1 40"), "0\n");
     assert_eq!(answer("request 001 0080 0000000000000101"), "8\n");
+    assert_eq!(answer("request 1 0 4294967295"), "REFUSED 11 0 0\n");
+    assert_eq!(answer(&format!("request 1 80 {:0>64}", 101)), "8\n");
 }
 
 #[test]
@@ -77,6 +79,7 @@ fn misuse() {
     ] {
         assert_eq!(answer(question), USAGE, "{question}");
     }
+    assert_eq!(answer(&format!("request 1 80 {:0>65}", 101)), USAGE);
     assert_eq!(ask(&PAIR, &[]), USAGE);
     // Looked at before the sheet.
     assert_eq!(ask(&[], &["table".to_string()]), USAGE);

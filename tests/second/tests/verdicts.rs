@@ -1,14 +1,16 @@
-//! Verdicts where a wrong method gives another one; all three walks must give the right one.
+//! Verdicts where a wrong method gives another one; all walks must give the right one.
 
 mod common;
 
 use common::{machine, pair_with, sheet, Row};
 use second::sheet::{check, Machine, Sheet};
 use second::text::verdict_line;
-use second::verdict::{plain_walk, swift_walk, verdict};
+use second::verdict::{plain_walk, same_method, swift_walk, verdict};
+use second::write::write;
 
 fn gives(sheet: &Sheet, line: &str) {
-    for walk in [verdict, plain_walk, swift_walk] {
+    let same_method = |sheet: &Sheet| same_method(&write(&sheet.machines), sheet);
+    for walk in [verdict, plain_walk, same_method, swift_walk] {
         assert_eq!(verdict_line(&walk(sheet)).trim_end(), line);
     }
 }

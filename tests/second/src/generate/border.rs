@@ -12,7 +12,7 @@ pub fn machines(random: &mut Random) -> Vec<Machine> {
     } else {
         uneven::machines(random)
     };
-    while !fits(&machines) && lighten(&mut machines) {}
+    while !fits(&machines) && lighten(&mut machines, 2) {}
     // The lowest machine is the one that feels all the others.
     let machine = if random.percent(70) {
         machines.len() - 1
@@ -52,12 +52,14 @@ fn fits(machines: &[Machine]) -> bool {
     swift_walk(&sheet) == Verdict::Fits
 }
 
-/// Halves every time; false when nothing was left to halve.
-fn lighten(machines: &mut [Machine]) -> bool {
+/// Takes a half, a third or so off every time; false when nothing was left to take.
+pub fn lighten(machines: &mut [Machine], part: u32) -> bool {
     let mut lighter = false;
     for action in machines.iter_mut().flat_map(|m| &mut m.actions) {
-        lighter |= action.time > 1;
-        action.time = action.time.div_ceil(2);
+        if action.time > 1 {
+            lighter = true;
+            action.time -= (action.time / part).max(1);
+        }
     }
     lighter
 }

@@ -18,7 +18,7 @@ pub fn sheet(random: &mut Random) -> Vec<u8> {
     sheet.bytes
 }
 
-const FAULTS: [fn(&mut Layout, &mut Random); 13] = [
+const FAULTS: [fn(&mut Layout, &mut Random); 14] = [
     flip_bits,
     spoil_mark,
     spoil_count,
@@ -32,6 +32,7 @@ const FAULTS: [fn(&mut Layout, &mut Random); 13] = [
     spoil_deadline,
     spoil_period,
     spoil_period,
+    stretch,
 ];
 
 /// Numbers around which 32-bit sums go wrong.
@@ -158,6 +159,25 @@ fn spoil_period(sheet: &mut Layout, random: &mut Random) {
     }
 }
 
+/// Periods whose least common multiple is just above what H may be, or just not.
+fn stretch(sheet: &mut Layout, random: &mut Random) {
+    let periods = random.pick(&[
+        [25, 41],
+        [27, 38],
+        [32, 33],
+        [64, 17],
+        [31, 33],
+        [512, 1_024],
+    ]);
+    for machine in 0..sheet.machines.len() {
+        for action in 0..sheet.machines[machine].actions.len() {
+            let place = sheet.action(machine, action);
+            sheet.put_half(place + 2, random.pick(&periods));
+            sheet.put_half(place + 6, 1);
+        }
+    }
+}
+
 fn change_length(bytes: &mut Vec<u8>, random: &mut Random) {
     let length = bytes.len();
     let kept = match random.within(0..=5) {
@@ -172,7 +192,7 @@ fn change_length(bytes: &mut Vec<u8>, random: &mut Random) {
         // Bytes come before it: a few, or all there is room for, or just too many.
         3 => length + 1 + random.place(16),
         4 => LONGEST.max(length),
-        _ => LONGEST + 1,
+        _ => random.pick(&[0, LONGEST + 1, LONGEST + 1, 4_096]),
     };
     bytes.reverse();
     bytes.resize(kept, 0);

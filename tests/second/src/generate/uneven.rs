@@ -4,7 +4,9 @@ use super::rates;
 use crate::random::Random;
 use crate::sheet::{Action, Machine};
 
-const HYPERPERIODS: [u32; 12] = [12, 24, 30, 36, 60, 60, 72, 84, 90, 120, 180, 210];
+const HYPERPERIODS: [u32; 16] = [
+    12, 24, 30, 36, 60, 60, 72, 84, 90, 120, 180, 210, 360, 420, 840, 1_008,
+];
 
 /// The last machine has one slow action, to be made longer until it is late.
 pub fn machines(random: &mut Random) -> Vec<Machine> {
@@ -13,10 +15,17 @@ pub fn machines(random: &mut Random) -> Vec<Machine> {
     let quick = &divisors[1..divisors.len() - 1];
     let count = random.pick(&[1, 1, 2, 3]);
     let mut machines: Vec<Machine> = (0..count).map(|_| high(random, quick)).collect();
+    for _ in 0..random.pick(&[0, 0, 0, 1, 2, 4]) {
+        machines.push(slow(random, &divisors));
+    }
     machines.sort_by_key(Machine::divisor);
-    let period = random.pick(&divisors).max(random.pick(&divisors));
-    machines.push(machine(1, vec![(0, 0, period)]));
+    machines.push(slow(random, &divisors));
     machines
+}
+
+fn slow(random: &mut Random, divisors: &[u32]) -> Machine {
+    let period = random.pick(divisors).max(random.pick(divisors));
+    machine(1, vec![(0, 0, period)])
 }
 
 /// A machine of up to three states; at time 0 its rates meet, and only one action can be taken.

@@ -1,23 +1,27 @@
 //! The verdict by the plainest walk: every start, every tick, every action tested.
 
-use super::{first_failure, Verdict, Window};
+use super::due::Due;
+use super::{first_failure, Verdict, MACHINES};
+use crate::back::Row;
 use crate::bounds::LONGEST_WINDOW;
-use crate::sheet::{Machine, Sheet, MOST_STATES, MOST_TICKS};
+use crate::sheet::{Machine, Sheet, MOST_STATES};
 
 pub fn plain_walk(sheet: &Sheet) -> Verdict {
+    let mut due = Due::new();
     first_failure(sheet, |machine, start| {
-        walk(&sheet.machines[..=machine], start)
+        let (last, found) = walk(&sheet.machines[..=machine], start, &mut due);
+        due.clear(last, &sheet.machines[machine]);
+        found
     })
 }
 
-/// Walks the lengths from one start for the last of these machines.
-fn walk(machines: &[Machine], start: u32) -> Option<Verdict> {
+/// Walks the lengths from one start for the last of these machines; the last length looked at,
+/// and what it showed.
+fn walk(machines: &[Machine], start: u32, due: &mut Due) -> (u32, Option<Verdict>) {
     let machine = machines.len() - 1;
     // For each machine the best total of the sequences so far that end in each state.
-    let mut rows = vec![[0; MOST_STATES]; machines.len()];
-    let mut requests = vec![0; machines.len()];
-    // For each length, the best total whose last deadline is exactly there.
-    let mut due = vec![0; (LONGEST_WINDOW + MOST_TICKS) as usize];
+    let mut rows: [Row; MACHINES] = [[0; MOST_STATES]; MACHINES];
+    let mut requests = [0; MACHINES];
     let mut demand = 0;
     let mut slack = 0;
     for length in 1..=LONGEST_WINDOW {
@@ -28,34 +32,25 @@ fn walk(machines: &[Machine], start: u32) -> Option<Verdict> {
                 if !action.has_instant(tick) {
                     continue;
                 }
-                let total: u32 = before[action.source] + action.time;
+                let total = before[action.source] + action.time;
                 rows[number][action.sink] = total.max(rows[number][action.sink]);
                 requests[number] = total.max(requests[number]);
                 if number == machine {
                     // What came before it was due by now: a deadline is at most the divisor.
-                    let last = (length - 1 + action.deadline) as usize;
-                    due[last] = total.max(due[last]);
+                    due.note(length - 1 + action.deadline, total);
                 }
             }
         }
         let above: u32 = requests[..machine].iter().sum();
         if above + requests[machine] <= length {
-            return None;
+            return (length, None);
         }
         // The largest m less the higher requests over m: some m passes when the demand is below.
         slack = slack.max(length.saturating_sub(above));
-        demand = due[length as usize].max(demand);
+        demand = demand.max(due.take(length));
         if demand > slack {
-            return Some(Verdict::Late(Window {
-                machine: machine as u32,
-                start,
-                length,
-                demand,
-            }));
+            return (length, Some(Verdict::late(machine, start, length, demand)));
         }
     }
-    Some(Verdict::Open {
-        machine: machine as u32,
-        start,
-    })
+    (LONGEST_WINDOW, Some(Verdict::open(machine, start)))
 }

@@ -1,17 +1,17 @@
 //! The verdict by a walk written for speed: what has an instant when is kept as bits.
 
-use super::{first_failure, Verdict, Window};
+use super::due::Due;
+use super::ones::ones;
+use super::{first_failure, Verdict, MACHINES};
 use crate::back::Row;
 use crate::bounds::LONGEST_WINDOW;
-use crate::sheet::{Action, Machine, Sheet, MOST_MACHINES, MOST_STATES, MOST_TICKS};
-
-const MACHINES: usize = MOST_MACHINES as usize;
+use crate::sheet::{Action, Machine, Sheet, MOST_STATES};
 
 pub fn swift_walk(sheet: &Sheet) -> Verdict {
     let mut walker = Walker {
         machines: &sheet.machines,
         ticks: ticks(sheet),
-        due: vec![0; (LONGEST_WINDOW + MOST_TICKS) as usize],
+        due: Due::new(),
     };
     first_failure(sheet, |machine, start| walker.walk(machine, start))
 }
@@ -41,17 +41,13 @@ struct Walker<'a> {
     machines: &'a [Machine],
     /// Those below the hyperperiod; later ones are the same again.
     ticks: Vec<Tick>,
-    /// For each length, the best total whose last deadline is exactly there; 0 between walks.
-    due: Vec<u32>,
+    due: Due,
 }
 
 impl Walker<'_> {
     fn walk(&mut self, machine: usize, start: u32) -> Option<Verdict> {
         let (last, found) = self.lengths(machine, start);
-        // Deadlines past the last length were noted but never reached.
-        let deadlines = self.machines[machine].actions.iter().map(|a| a.deadline);
-        let furthest = last + deadlines.max().unwrap_or(0);
-        self.due[last as usize..furthest as usize].fill(0);
+        self.due.clear(last, &self.machines[machine]);
         found
     }
 
@@ -80,31 +76,18 @@ impl Walker<'_> {
             }
             let actions = taken(&self.machines[machine], tick.actions[machine]);
             let due = &mut self.due;
-            let note = |deadline: u32, total: u32| {
-                let best = &mut due[(length - 1 + deadline) as usize];
-                *best = total.max(*best);
-            };
+            let note = |deadline, total| due.note(length - 1 + deadline, total);
             requests[machine] = take(&mut rows[machine], requests[machine], actions, note);
             if above + requests[machine] <= length {
                 return (length, None);
             }
             slack = slack.max(length.saturating_sub(above));
-            demand = demand.max(std::mem::take(&mut self.due[length as usize]));
+            demand = demand.max(self.due.take(length));
             if demand > slack {
-                let late = Verdict::Late(Window {
-                    machine: machine as u32,
-                    start,
-                    length,
-                    demand,
-                });
-                return (length, Some(late));
+                return (length, Some(Verdict::late(machine, start, length, demand)));
             }
         }
-        let open = Verdict::Open {
-            machine: machine as u32,
-            start,
-        };
-        (LONGEST_WINDOW, Some(open))
+        (LONGEST_WINDOW, Some(Verdict::open(machine, start)))
     }
 }
 
@@ -127,15 +110,4 @@ fn take<'a>(
 
 fn taken(machine: &Machine, bits: u32) -> impl Iterator<Item = &Action> {
     ones(bits).map(|number| &machine.actions[number])
-}
-
-/// The places of the ones, lowest first.
-fn ones(mut bits: u32) -> impl Iterator<Item = usize> {
-    std::iter::from_fn(move || {
-        let place = bits.trailing_zeros() as usize;
-        (bits != 0).then(|| {
-            bits &= bits - 1;
-            place
-        })
-    })
 }
