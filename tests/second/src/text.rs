@@ -9,11 +9,8 @@ use crate::verdict::{verdict, Verdict, Window};
 /// One byte more than the longest sheet: enough to see that a longer one is too long.
 pub const MOST_READ: usize = LONGEST + 1;
 
-pub const USAGE: &str = "usage: ask request MACHINE START END
-       ask demand MACHINE START END
-       ask table MACHINE START LONGEST
-       ask critical MACHINE START END
-       ask plain MACHINE START END
+pub const USAGE: &str = "usage: ask request|demand|critical|plain MACHINE START END
+       ask table MACHINE START LENGTH
 ";
 
 /// The text of `fit` for what it read.
