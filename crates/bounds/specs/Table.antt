@@ -42,6 +42,7 @@ tableReply b i s n words = tableRefusal b i s n (length words) otherwise answer 
 abbrev pub inFront : List ℕ → List ℕ → List ℕ
 inFront written words = written ++ drop (length written) words
 
+-- with the table of machine i of sheet b
 abbrev pub withTable : List ℕ → ℕ → ℕ → ℕ → List ℕ → List ℕ
 withTable b i s n words = inFront (requestTable (machineOf (decode b) i) s n) words
 
@@ -50,6 +51,7 @@ abbrev pub unlessRefused : Option Refusal → List ℕ → List ℕ → List ℕ
 unlessRefused none after words = after
 unlessRefused (some r) after words = words
 
+-- by the refusal of the call
 abbrev pub tableWords : List ℕ → ℕ → ℕ → ℕ → List ℕ → List ℕ
 tableWords b i s n words = unlessRefused (tableRefusal b i s n (length words)) (withTable b i s n words) words
 

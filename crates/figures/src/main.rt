@@ -91,8 +91,10 @@ fn pair_requests() {
     request(b"PAIR", pair(), 1, 0, 40);
     request(b"PAIR", pair(), 1, 1, 40);
     request(b"PAIR", pair(), 2, 5, 4);
+    request(b"PAIR", pair(), 4294967295, 0, 1);
     request(b"PAIR", pair(), 1, 7, 3);
     request(b"PAIR", pair(), 1, 1000000, 1000001);
+    request(b"PAIR", pair(), 1, 1000000, 1000000);
     request(b"PAIR", pair(), 1, 0, 2048);
     request(b"PAIR", pair(), 1, 0, 2049);
     request(b"PAIR", pair(), 0, 0, 200);

@@ -16,7 +16,7 @@ use Rattle.model.specs.Legal.{Pair, Within, total, cost, asked, IsReques
 use Rattle.model.specs.Reckon.{begins?, most, pair, open?, after, gain, best, request}
 use Rattle.model.specs.Critical.{Before, NotAfter, Reaches, IsCritical}
 use Rattle.model.specs.Search.{smallestBelow}
-use Rattle.model.specs.Critical.{makes?, orElse, firstBest, critical}
+use Rattle.model.specs.Critical.{makes?, goOrStay, firstBest, critical}
 use Rattle.model.proofs.Tests.{both-true, cond-cases}
 use Rattle.model.proofs.Most.{most-above, most-at}
 use Rattle.model.proofs.Smallest.{Smallest, smallest-is, smallest-unique}
@@ -116,7 +116,7 @@ module _ (m : Machine) (ok : Pair → Type 0) (w : Pair → ℕ) where
           (positive : (p : Pair) → p .action < count m → 0 < w p) (next : (ℕ → Bool) → List Pair)
           (good : (g : ℕ → Bool) → Good (suc t) n g (next g)) where
         good-more : (o : Option ℕ) → Smallest (count m) makes o
-            → Good t (suc n) from (orElse o (λ k. pair k t ∷ next (after m k)) (next from))
+            → Good t (suc n) from (goOrStay o (λ k. pair k t ∷ next (after m k)) (next from))
         good-more none h =
             record {
               goes = onward-sooner m ok from t (next from) (good from .goes);

@@ -1,23 +1,27 @@
--- P1 to P12: one test of the whole table, which the prover computes, and one law that the test tells the truth.
+-- P1 to P12: one test of the whole table, which the prover computes, and one law that the test tells the truth. And what
+-- keeping only the least gap between events would miss: no window of 41 ticks asks for more than 13.
 -- Assumes nothing.
-use Prim.Native.Nat.{ℕ, zero, suc, _+_, _-_, _<_}
+use Prim.Native.Nat.{ℕ, zero, suc, _+_, _-_, _%_, _≤_, _<_}
 use mathlib.Core.Path.{_≡_, refl, sym, _∙_, ap}
 use mathlib.Core.Bool.{Bool, true, _&&_}
 use mathlib.Core.List.{List, [], _∷_}
+use mathlib.Core.Logic.{⊎-elim}
 use native.Mathlib.Omega.{arith}
-use native.Mathlib.Nat.{zero-add, not-suc-le-zero, le-of-suc-le-suc}
+use native.Mathlib.Nat.{zero-add, not-suc-le-zero, le-of-suc-le-suc, eq-or-lt-of-le, mod-lt, dvd-of-mod-eq-zero}
 use native.Mathlib.Numerals.{add-one}
 use lib.Dec.{eqb, leb}
 use borrow.Author.Tests.{leb-true, eqb-true}
 use Rattle.model.specs.Machine.{Machine, actionOf}
-use Rattle.model.specs.Legal.{Pair, cost, asked, askedBy}
+use Rattle.model.specs.Legal.{Pair, cost, asked, askedBy, IsRequestBound}
 use Rattle.model.specs.Reckon.{instant?, begins?, most, best, request, demand}
-use Rattle.model.specs.Inside.{Closed, moved, figure, IsRow}
+use Rattle.model.specs.Inside.{Repeats, Closed, moved, figure, IsRow}
 use Rattle.model.specs.Numbers.{machine1, Number, requestOf, demandOf, numbers, Right, AllRight}
 use Rattle.model.proofs.Tests.{both-true}
 use Rattle.model.proofs.Most.{most-above}
-use Rattle.model.proofs.Names.{sinks-closed}
+use Rattle.model.proofs.Names.{multiple-repeats, sinks-closed}
+use Rattle.model.proofs.Largest.{largest-unique}
 use Rattle.model.proofs.Bounds.{request-is, demand-is}
+use Rattle.model.proofs.Shift.{request-remainder}
 use Rattle.model.proofs.Row.{row-start, row-moved, row-best}
 
 -- n figures in a list: f i, f (i + 1) and so on
@@ -88,3 +92,49 @@ machine1-closed =
 pub P1-to-P12 : AllRight machine1 numbers
 unfolding allRight? right? top rowOf listed most instant? begins? cost
 P1-to-P12 = allRight?-law machine1 machine1-closed numbers refl
+
+-- a test of the numbers below n
+allBelow? : ℕ → (ℕ → Bool) → Bool
+allBelow? zero f = true
+allBelow? (suc n) f = f n && allBelow? n f
+
+allBelow?-law : (n : ℕ) (f : ℕ → Bool) → allBelow? n f ≡ true → (j : ℕ) → j < n → f j ≡ true
+unfolding allBelow?
+allBelow?-law zero f t j l = absurd (not-suc-le-zero l)
+allBelow?-law (suc n) f t j l =
+    let (a, b) = both-true (f n) (allBelow? n f) t in
+    ⊎-elim (λ e. rw e a) (λ d. allBelow?-law n f b j d) (eq-or-lt-of-le (le-of-suc-le-suc l))
+
+-- the 41 ticks from s on ask for at most 13
+few? : ℕ → Bool
+few? s = leb (top machine1 (asked machine1) s 41) 13
+
+few?-all : allBelow? 200 few? ≡ true
+unfolding allBelow? few? top rowOf listed most instant? begins? cost
+few?-all = refl
+
+-- the machine's instants come again after 200 ticks
+machine1-repeats : Repeats machine1 200
+machine1-repeats = multiple-repeats machine1 200 (λ k l. dvd-of-mod-eq-zero (actionOf machine1 k .period) (divides k l))
+  where
+    divides : (k : ℕ) → k < 4 → 200 % actionOf machine1 k .period ≡ 0
+    divides zero l = refl
+    divides (suc zero) l = refl
+    divides (suc (suc zero)) l = refl
+    divides (suc (suc (suc zero))) l = refl
+    divides (suc (suc (suc (suc k)))) l = absurd (omega arith)
+
+pub window-of-41 : (s v : ℕ) → IsRequestBound machine1 s (s + 41) v → v ≤ 13
+unfolding few? request
+window-of-41 s v b =
+    let r = s % 200 in
+    let e : v ≡ request machine1 s 41 = largest-unique b (request-is machine1 s 41 (s + 41) refl) in
+    let few : top machine1 (asked machine1) r 41 ≤ 13 =
+    leb-true _ 13 (allBelow?-law 200 few? few?-all r (mod-lt s (omega arith))) in
+    omega (
+      arith,
+      e,
+      few,
+      request-remainder machine1 200 machine1-repeats s 41,
+      top-best machine1 (asked machine1) machine1-closed r 41,
+    )

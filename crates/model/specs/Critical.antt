@@ -39,15 +39,15 @@ makes? m w t n from k =
     open? m from (pair k t) && eqb (w (pair k t) + best m w (suc t) n (after m k)) (best m w t (suc n) from)
 
 -- `go k` where there is a number k, else `stay`
-abbrev pub orElse : Option ℕ → (ℕ → List Pair) → List Pair → List Pair
-orElse none go stay = stay
-orElse (some k) go stay = go k
+abbrev pub goOrStay : Option ℕ → (ℕ → List Pair) → List Pair → List Pair
+goOrStay none go stay = stay
+goOrStay (some k) go stay = go k
 
 -- the first sequence of the largest total: at each tick the smallest action that makes it up, if there is one
 unfoldable pub firstBest : Machine → (Pair → ℕ) → ℕ → ℕ → (ℕ → Bool) → List Pair
 firstBest m w t zero from = []
 firstBest m w t (suc n) from =
-    orElse (smallestBelow (count m) (makes? m w t n from)) (λ k. pair k t ∷ firstBest m w (suc t) n (after m k))
+    goOrStay (smallestBelow (count m) (makes? m w t n from)) (λ k. pair k t ∷ firstBest m w (suc t) n (after m k))
     (firstBest m w (suc t) n from)
 
 -- the critical sequence of [s, s + n)

@@ -1,9 +1,10 @@
--- A sheet's machines as plain data.
+-- Document 01, "The sheet": a sheet's machines as plain data.
 use Prim.Native.Nat.{ℕ}
 use mathlib.Core.List.{List, [], _∷_, _++_, map}
 use lib.ListN.{length, getD}
 use Rattle.number.specs.Divide.{gcdOf, lcmOf}
 
+-- an action, with its times in ticks
 pub record Action : Type 0 where
   pub source : ℕ
   pub sink : ℕ
@@ -11,6 +12,7 @@ pub record Action : Type 0 where
   pub time : ℕ
   pub deadline : ℕ
 
+-- a machine: how many states it has, which is the initial one, and its actions in the order of their numbers
 pub record Machine : Type 0 where
   pub states : ℕ
   pub initial : ℕ
@@ -27,6 +29,7 @@ actionOf m k = getD (m .actions) k (record { source = 0; sink = 0; period = 0; t
 abbrev pub machineOf : List Machine → ℕ → Machine
 machineOf ms i = getD ms i (record { states = 0; initial = 0; actions = [] })
 
+-- the periods of its actions
 abbrev pub periods : Machine → List ℕ
 periods m = map (λ a. a .period) (m .actions)
 

@@ -13,6 +13,7 @@ euclid (suc calls) a (suc b) = euclid calls (suc b) (a % suc b)
 unfoldable pub gcd : ℕ → ℕ → ℕ
 gcd a b = euclid (suc b) a b
 
+-- the least common multiple: divided first, so that nothing larger than it comes up
 unfoldable pub lcm : ℕ → ℕ → ℕ
 lcm a b = a / gcd a b * b
 

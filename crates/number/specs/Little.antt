@@ -3,6 +3,7 @@ use Prim.Native.Nat.{ℕ, _+_, _*_}
 use mathlib.Core.List.{List}
 use lib.ListN.{getD}
 
+-- the two bytes from `at` on as a number, and the four
 abbrev pub le16 : List ℕ → ℕ → ℕ
 le16 b at = getD b at 0 + 256 * getD b (at + 1) 0
 

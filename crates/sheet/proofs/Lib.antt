@@ -4,3 +4,4 @@ pub mod Tests
 pub mod Walk
 pub mod Accepted
 pub mod Answer
+pub mod Pair

@@ -31,21 +31,21 @@ pub enum Verdict {
 }
 
 // What a walk has found.
-pub enum Given {
+pub(crate) enum Given {
     Nothing,
     Late(Window),
     Open { machine: u32, start: u32 },
 }
 
 // A machine in the walk: a figure a state, and the largest of them.
-pub struct Line {
+pub(crate) struct Line {
     pub row: [u32; 16],
     pub top: u32,
 }
 
 // Machines 0 to i in the walk for machine i: their lines, the requests above i added, i's own; and of
 // i's last instant so far the row before it, its mask, and how many ticks from the start it is.
-pub struct Level {
+pub(crate) struct Level {
     pub lines: [Line; 8],
     pub above: u32,
     pub own: u32,
