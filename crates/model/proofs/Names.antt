@@ -89,6 +89,12 @@ pub divisor-divides : (m : Machine) (k : ℕ) → k < count m → divisor m ∣ 
 unfolding divisor
 divisor-divides m = periods-each (λ a. divisor m ∣ a) m .0 (gcdOf-is (periods m) .divides)
 
+-- so there is no instant but at its multiples
+pub off-divisor : (m : Machine) (k t : ℕ) → k < count m → (t % divisor m ≡ 0 → ⊥) → instant? m k t ≡ false
+off-divisor m k t l h =
+    instant?-false m k t (λ i.
+    h (mod-eq-zero-of-dvd (divisor m) (dvd-trans (divisor m) (divisor-divides m k l) (instant-divides m k t .0 i))))
+
 -- the hyperperiod is a multiple of each period of the sheet, so that every machine's instants come again
 pub hyperperiod-repeats : (ms : List Machine)
     → ((i k : ℕ) → k < count (machineOf ms i) → 0 < actionOf (machineOf ms i) k .period)

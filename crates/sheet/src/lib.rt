@@ -7,6 +7,7 @@ ghost use mathlib.Core.Path.{_≡_};
 ghost use Rattle.sheet.specs.Reply.{paper};
 ghost use Rattle.sheet.specs.Check.{checkReply};
 ghost use Rattle.sheet.specs.Inside.{found, firstRules};
+pub use rules::divisor_of;
 
 // Why a call is refused: the number of the reply, and its place.
 pub struct Refusal {

@@ -138,7 +138,7 @@ fn action_keeps(sheet: &[u8], rule: u32, states: usize, divisor: u32, at: usize)
 }
 
 // The greatest common divisor of a machine's periods.
-fn divisor_of(sheet: &[u8], machine: usize) -> u32
+pub fn divisor_of(sheet: &[u8], machine: usize) -> u32
     requires { ⌜ Filled (now sheet) × (machine < machineCount (now sheet)) ⌝ }
     ensures { λ r. ⌜ r ≡ divisor (machineOf (decode (now (sheet .entry))) machine) ⌝ }
 {

@@ -39,6 +39,12 @@ module _ (f : ℕ → Bool) where
   digits-cong g j (suc n) h =
       ap₂ (λ a b. bit a + 2 * b) (h j (omega arith)) (digits-cong g (suc j) n (λ k l. h k (omega arith)))
 
+  pub digits-none : (j n : ℕ) → ((k : ℕ) → k < j + n → f k ≡ false) → digits f j n ≡ 0
+  unfolding digits bit
+  digits-none j zero h = refl
+  digits-none j (suc n) h =
+      rw (h j (omega arith)) (omega (arith, digits-none (suc j) n (λ k l. h k (omega arith))))
+
   pub digits-zero : (j n k : ℕ) → digits f j n ≡ 0 → j ≤ k → k < j + n → f k ≡ false
   unfolding digits
   digits-zero j zero k e a b = absurd (omega arith)

@@ -11,16 +11,16 @@ use native.Mathlib.Nat.{le-antisymm, mod-add-div'}
 use native.Mathlib.Decide.{decLt, ℕ-discrete}
 use lib.ListN.{length, getD, set, length-set, List·getD-append}
 use lib.Seq.{getD-set-same, getD-set-other}
-use Rattle.model.specs.Machine.{Machine, count}
+use Rattle.model.specs.Machine.{Machine, count, divisor}
 use Rattle.model.specs.Legal.{Instant}
 use Rattle.model.specs.Reckon.{instant?, most}
 use Rattle.model.specs.Inside.{Repeats}
 use Rattle.model.proofs.Tests.{test-same}
-use Rattle.model.proofs.Names.{instant?-law}
+use Rattle.model.proofs.Names.{instant?-law, off-divisor}
 use Rattle.model.proofs.Shift.{repeats-times}
 use Rattle.model.proofs.Most.{most-above, most-below}
 use Rattle.walk.specs.Inside.{Marks, AllMarked, WindowMarked}
-use Rattle.walk.proofs.Digits.{digits-cong, digits-zero, digits-some}
+use Rattle.walk.proofs.Digits.{digits-cong, digits-none, digits-zero, digits-some}
 use Rattle.walk.proofs.Digits.{Left, left-begin, left-more, left-next, left-one, left-other, left-none}
 
 -- a mask of no action, and one of some
@@ -34,6 +34,11 @@ pub marks-some : {m : Machine} {t mask : ℕ} → Marks m t mask → (mask ≡ 0
 marks-some {m} {t} h some =
     let (j, l, e) = digits-some (λ k. instant? m k t) 0 (count m) (λ z. some (h .is ∙ z)) in
     (j, omega arith, instant?-law m j t .0 e)
+
+-- a tick that is no multiple of the divisor has no instant
+pub marks-off : (m : Machine) (t g : ℕ) → g ≡ divisor m → (t % g ≡ 0 → ⊥) → Marks m t 0
+marks-off m t g e h =
+    record { is = sym (digits-none (λ k. instant? m k t) 0 (count m) (λ k l. off-divisor m k t (omega arith) (rw e at h))) }
 
 -- where the instants come again after h ticks, the masks of [0, h) serve for all
 pub marks-remainder : {m : Machine} (h : ℕ) {t mask : ℕ} → Repeats m h → Marks m (t % h) mask → Marks m t mask

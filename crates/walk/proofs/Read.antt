@@ -6,7 +6,7 @@ use mathlib.Core.List.{List}
 use native.Mathlib.Omega.{arith}
 use lib.Dec.{eqb}
 use lib.ListN.{length}
-use Rattle.model.specs.Machine.{count, actionOf}
+use Rattle.model.specs.Machine.{count, actionOf, divisor}
 use Rattle.model.specs.Sizes.{ActionSizes, MachineSizes}
 use Rattle.model.specs.Reckon.{instant?}
 use Rattle.model.specs.Inside.{figure}
@@ -19,6 +19,12 @@ use Rattle.walk.specs.Inside.{machineAt, IsEntry, Joins}
 module _ {b : List ℕ} {e : Entry} (h : IsEntry b e) where
   pub entry-sizes : MachineSizes (machineAt b e)
   entry-sizes = h .accepted .sizes .machine (e .machine) (omega (arith, h .accepted .machines, h .known))
+
+  -- a deadline is at least 1 and at most the divisor
+  pub entry-divisor : 0 < divisor (machineAt b e)
+  entry-divisor =
+      let first = entry-sizes .action 0 (omega (arith, entry-sizes .actions .0)) .deadline in
+      omega (arith, first .0, first .1)
 
   module _ {j : ℕ} (l : j < count (machineAt b e)) where
     counted : j < e .actions

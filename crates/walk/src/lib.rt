@@ -4,6 +4,7 @@ ghost use mathlib.Core.Path.{_≡_};
 ghost use Prim.Native.Nat.{_+_, _^_, _%_, _≤_, _<_};
 ghost use lib.Dec.{eqb};
 ghost use lib.ListN.{length};
+ghost use Rattle.model.specs.Machine.{divisor as Machine·divisor};
 ghost use Rattle.model.specs.Reckon.{most};
 ghost use Rattle.model.specs.Inside.{figure};
 ghost use Rattle.sheet.specs.Format.{actionAt, machineCount};
@@ -40,9 +41,10 @@ pub fn marks(sheet: &[u8], entry: Entry, from: u32, masks: &mut [u32])
     requires { ⌜ IsEntry (now sheet) entry × (from + length (now masks) < 2 ^ 32) ⌝ }
     ensures { λ _. ⌜ AllMarked (machineAt (now (sheet .entry)) entry) from (now (masks .exit)) ⌝ }
 {
+    let divisor = sheet::divisor_of(sheet, entry.machine);
     let mut k = 0;
     while k < masks.len() {
-        masks[k] = mask_at(sheet, entry, from + k as u32);
+        masks[k] = mask_at(sheet, entry, divisor, from + k as u32);
         k += 1;
     }
 }
@@ -57,11 +59,15 @@ pub fn window_marks(sheet: &[u8], entry: Entry, from: u32, length: usize) -> [u3
     masks
 }
 
-// The mask of one tick, from the last action to the first.
-fn mask_at(sheet: &[u8], entry: Entry, t: u32) -> u32
-    requires { ⌜ IsEntry (now sheet) entry ⌝ }
+// The mask of one tick, from the last action to the first. Every instant is a multiple of the
+// divisor of the machine's periods, so that most ticks need no look at the actions.
+fn mask_at(sheet: &[u8], entry: Entry, divisor: u32, t: u32) -> u32
+    requires { ⌜ IsEntry (now sheet) entry × (divisor ≡ Machine·divisor (machineAt (now sheet) entry)) ⌝ }
     ensures { λ r. ⌜ Marks (machineAt (now (sheet .entry)) entry) t r ⌝ }
 {
+    if t % divisor != 0 {
+        return 0;
+    }
     let mut mask = 0;
     let mut j = entry.actions;
     while 0 < j {

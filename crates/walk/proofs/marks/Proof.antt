@@ -8,10 +8,15 @@ use Rattle.walk.proofs.marks.Statement.{statement}
 use Rattle.walk.proofs.marks.Tie as tie
 
 abbrev Inv-loop : tie.InvT-loop
-Inv-loop sheet entry from masks₀ k₀ masks k = Marking (machineAt sheet entry) from (length masks₀) k masks
+Inv-loop sheet entry from masks₀ divisor k₀ masks k = Marking (machineAt sheet entry) from (length masks₀) k masks
 
 abbrev μ-loop : tie.MeasureT-loop
-μ-loop sheet entry from masks₀ k₀ masks k = length masks₀ - k
+μ-loop sheet entry from masks₀ divisor k₀ masks k = length masks₀ - k
+
+divisor-of-requires : tie.Need-divisor-of-requires Inv-loop μ-loop
+divisor-of-requires c κs =
+    let entry = c .before .before .pre .0 in
+    (entry .accepted .ranged .filled, entry .known)
 
 loop-holds : tie.Need-loop-holds Inv-loop μ-loop
 loop-holds c = marking-begin refl
@@ -23,7 +28,9 @@ add-mask-at : tie.Need-add-mask-at Inv-loop μ-loop
 add-mask-at c = omega arith
 
 mask-at-requires : tie.Need-mask-at-requires Inv-loop μ-loop
-mask-at-requires c κs = c .before .before .before .before .pre .0
+mask-at-requires c κs =
+    let read = c .before .before in
+    (read .before .before .before .pre .0, read .divisor-of .ensures)
 
 mul-masks : tie.Need-mul-masks Inv-loop μ-loop
 mul-masks c = omega arith
@@ -53,6 +60,7 @@ marks-spec =
     (tie.spec
     Inv-loop
     μ-loop
+    divisor-of-requires
     loop-holds
     cast-mask-at
     add-mask-at
