@@ -68,10 +68,9 @@ impl<'a> Walker<'a> {
             entry
         };
         let entries = sheet.machines.iter().map(entry).collect();
-        let ticks = 0..sheet.hyperperiod;
         let machines = sheet.machines.iter();
         let masks: Vec<Vec<u32>> = machines
-            .map(|machine| ticks.clone().map(|tick| mask(machine, tick)).collect())
+            .map(|machine| masks(machine, sheet.hyperperiod))
             .collect();
         let lowest = |tick: u32| {
             let found = masks.iter().position(|machine| machine[tick as usize] != 0);
@@ -80,7 +79,7 @@ impl<'a> Walker<'a> {
         Walker {
             bytes,
             entries,
-            lowest: ticks.map(lowest).collect(),
+            lowest: (0..sheet.hyperperiod).map(lowest).collect(),
             masks,
         }
     }
@@ -166,6 +165,16 @@ impl<'a> Walker<'a> {
     fn half(&self, at: usize) -> u32 {
         u16::from_le_bytes([self.bytes[at], self.bytes[at + 1]]).into()
     }
+}
+
+fn masks(machine: &Machine, hyperperiod: u32) -> Vec<u32> {
+    // Every instant is a multiple of the divisor, so most ticks need no look at the actions.
+    let divisor = machine.divisor();
+    let mask = |tick| match tick % divisor {
+        0 => mask(machine, tick),
+        _ => 0,
+    };
+    (0..hyperperiod).map(mask).collect()
 }
 
 fn mask(machine: &Machine, tick: u32) -> u32 {
