@@ -15,7 +15,9 @@ use Rattle.model.proofs.Names.{divisor-divides}
 use Rattle.model.proofs.Sizes.{hyperperiod-positive, period-divides-hyperperiod}
 use Rattle.sheet.specs.Format.{entry, trailerOffset, machineCount, decode}
 use Rattle.sheet.specs.Reply.{refusal}
-use Rattle.sheet.specs.Rules.{between, trailerInRange, entryInRange, entryRefusal, actionsBefore, offsetRefusal, endRefusal, actionInRange, deadlineInRange, actionRefusal, machineRefusal, rule1, rule3, rule4, rule5, rule6, rule7, rule8, rule9}
+use Rattle.sheet.specs.Rules.{rule1, rule3, rule4, rule5, rule6, rule7, rule8, rule9}
+use Rattle.sheet.specs.Rules.{between, trailerInRange, entryInRange, actionInRange, deadlineInRange}
+use Rattle.sheet.specs.Rules.{entryRefusal, actionsBefore, offsetRefusal, endRefusal, actionRefusal, machineRefusal}
 use Rattle.sheet.specs.Inside.{Laid, Entered, Filled, Ranged, Accepted}
 use Rattle.model.specs.Search.{firstOf}
 use Rattle.model.proofs.Search.{first-none}

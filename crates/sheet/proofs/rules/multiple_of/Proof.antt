@@ -13,20 +13,27 @@ use Rattle.sheet.proofs.rules.multiple_of.Statement.{statement}
 use Rattle.sheet.proofs.rules.multiple_of.Tie as tie
 
 abbrev Inv-loop : tie.InvT-loop
-Inv-loop sheet machine h actions first multiple₀ j₀ multiple j = (j ≤ actions) × Between 1 1024 multiple × Taking lcm (machineOf (decode sheet) machine) multiple j (fold lcm h (periods (machineOf (decode sheet) machine)))
+Inv-loop sheet machine h actions first multiple₀ j₀ multiple j =
+    let m = machineOf (decode sheet) machine in
+    (j ≤ actions) × Between 1 1024 multiple × Taking lcm m multiple j (fold lcm h (periods m))
 
 abbrev μ-loop : tie.MeasureT-loop
 μ-loop sheet machine h actions first multiple₀ j₀ multiple j = actions - j
 
 -- the action that a turn reads stands inside the sheet
-inside : (c : tie.In-loop Inv-loop μ-loop) → c .before .before .first-action .result + 8 * c .before .loop .j + 8 ≤ length (c .before .before .before .before .before .args .sheet .now)
+inside : (c : tie.In-loop Inv-loop μ-loop)
+    → let sheet = c .before .before .before .before .before .args .sheet .now in
+    c .before .before .first-action .result + 8 * c .before .loop .j + 8 ≤ length sheet
 inside c =
     let start = c .before .before .before .before .before in
     action-inside (start .pre .0 .filled) (start .pre .1) (c .before .before .before .action-count .ensures)
     (c .before .before .first-action .ensures) (c .loop-test .taken)
 
 -- its period, and that it is in range
-read : (c : tie.After-period Inv-loop μ-loop) → c .period .result ≡ actionOf (machineOf (decode (c .before .before .before .before .before .before .args .sheet .now)) (c .before .before .before .before .before .before .args .machine)) (c .before .before .loop .j) .period
+read : (c : tie.After-period Inv-loop μ-loop)
+    → let start = c .before .before .before .before .before .before .args in
+    let m = machineOf (decode (start .sheet .now)) (start .machine) in
+    c .period .result ≡ actionOf m (c .before .before .loop .j) .period
 read c =
     let turn = c .before in
     let start = turn .before .before .before .before .before in
