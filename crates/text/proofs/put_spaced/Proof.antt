@@ -3,7 +3,6 @@ use Rattle.text.proofs.Laws.{word-digits, spaced-begin, spaced-more, sp
 use Rattle.text.specs.Inside.{Put}
 use Rattle.text.specs.Text.{decimal, spaced}
 use lib.ListN.{length, take, getD}
-use mathlib.Core.Path.{_≡_}
 use native.Mathlib.Omega.{arith}
 use Prim.Native.Nat.{_+_, _*_, _-_, _≤_}
 use Rattle.text.proofs.put_spaced.Statement.{statement}

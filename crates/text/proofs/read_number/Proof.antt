@@ -24,7 +24,8 @@ read-byte-requires c κs = omega arith
 returns-2 : tie.Need-returns-2 Inv-loop μ-loop
 returns-2 c =
     let head = c .before .before .before in
-    reading-low (head .loop .inv .2) _ (c .before .before .loop-test .taken) (c .before .read-byte .ensures .0) (c .if2 .taken)
+    reading-low (head .loop .inv .2) _ (c .before .before .loop-test .taken) (c .before .read-byte .ensures .0)
+    (c .if2 .taken)
 
 returns-3 : tie.Need-returns-3 Inv-loop μ-loop
 returns-3 c =

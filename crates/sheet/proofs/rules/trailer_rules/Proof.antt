@@ -35,7 +35,8 @@ counted c = c .between2 .ensures ∙ ap (between 1 8) (c .before .machine-count 
 past-three : (c : tie.Else3)
     → let b = c .before .before .before .before .before .before .before .before .args .sheet .now in
     trailerRules b ≡ rule4 b
-past-three c = past-two (c .before .before .before) ∙ orElse-clear _ (kept-here _ _ (counted (c .before)) (c .if3 .left))
+past-three c =
+    past-two (c .before .before .before) ∙ orElse-clear _ (kept-here _ _ (counted (c .before)) (c .if3 .left))
 
 between-requires : tie.Need-between-requires
 between-requires c κs = search needs

@@ -56,10 +56,11 @@ loop-less c = omega arith
 
 loop-again : tie.Need-loop-again Inv-loop μ-loop
 loop-again c =
-    let turn = c .before .before .before .before in (
+    let turn = c .before .before .before .before in
+    let entry = c .before .before .before .entry-of .ensures in (
       omega arith,
       filled-more (turn .before .before .before .pre) _ (turn .before .loop .inv .1) (turn .loop-test .taken)
-          (c .before .marks .kept .1 .1 .1 .0) (rw (c .before .before .before .entry-of .ensures .0) at (c .before .marks .ensures)),
+          (c .before .marks .kept .1 .1 .1 .0) (rw (entry .0) at (c .before .marks .ensures)),
     )
 
 returns : tie.Need-returns Inv-loop μ-loop

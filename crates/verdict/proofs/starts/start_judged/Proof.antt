@@ -165,7 +165,8 @@ due-within-requires c κs =
     let join = c .before .before .before .before .before .before in
     let entry = head join .before .before .before .entry-of .ensures in
     let last = come join .last in
-    let ready = row-ready (sizes (begun join)) (last .figures) (omega (arith, near join, last .last .early)) (last .marks) in
+    let close = near join in
+    let ready = row-ready (sizes (begun join)) (last .figures) (omega (arith, last .last .early)) (last .marks) in
     (entry .1, rw (entry .0) ready)
 
 cast-t33 : tie.Need-cast-t33 Inv-loop μ-loop
