@@ -1,5 +1,6 @@
 -- The laws of the names that stand for a rule of the exchange: Instant, MayBegin, cost, divisor, hyperperiod.
--- No other law looks behind these names or the tests of the first two; only Numbers (P1 to P12) and Worked compute with them.
+-- No other law looks behind these names or the tests of the first two; only Numbers, with P1 to P12, and Worked compute
+-- with them.
 -- Assumes nothing.
 use Prim.Native.Nat.{ℕ, _+_, _-_, _/_, _%_, _≤_, _<_, _∣_}
 use mathlib.Core.Path.{_≡_, refl}

@@ -1,12 +1,12 @@
 -- What the rules give, stage by stage, up to an accepted sheet: later proofs go by these records and open no rule.
 -- Assumes nothing.
 use Prim.Native.Nat.{ℕ, zero, suc, _+_, _-_, _*_, _≤_, _<_}
-use mathlib.Core.Path.{_≡_, refl, sym, _∙_, ap}
-use mathlib.Core.Bool.{Bool, true, _&&_}
+use mathlib.Core.Path.{_≡_}
+use mathlib.Core.Bool.{Bool, true}
 use mathlib.Core.List.{List}
-use mathlib.Core.Option.{Option, none}
+use mathlib.Core.Option.{none}
 use native.Mathlib.Omega.{arith}
-use lib.Dec.{leb, ltb, eqb}
+use lib.Dec.{leb, ltb}
 use lib.ListN.{length}
 use borrow.Author.Tests.{ltb-true, leb-true, eqb-true}
 use Rattle.model.specs.Machine.{Action, Machine, count, actionOf, machineOf, divisor, hyperperiod}
@@ -15,7 +15,9 @@ use Rattle.model.proofs.Names.{divisor-divides}
 use Rattle.model.proofs.Sizes.{hyperperiod-positive, period-divides-hyperperiod}
 use Rattle.sheet.specs.Format.{entry, trailerOffset, machineCount, decode}
 use Rattle.sheet.specs.Reply.{refusal}
-use Rattle.sheet.specs.Rules.{between, trailerInRange, entryInRange, entryRefusal, actionsBefore, offsetRefusal, endRefusal, actionInRange, deadlineInRange, actionRefusal, machineRefusal, rule1, rule3, rule4, rule5, rule6, rule7, rule8, rule9}
+use Rattle.sheet.specs.Rules.{rule1, rule3, rule4, rule5, rule6, rule7, rule8, rule9}
+use Rattle.sheet.specs.Rules.{actionsBefore, between, trailerInRange, entryInRange, actionInRange, deadlineInRange}
+use Rattle.sheet.specs.Rules.{entryRefusal, offsetRefusal, endRefusal, actionRefusal, machineRefusal}
 use Rattle.sheet.specs.Inside.{Laid, Entered, Filled, Ranged, Accepted}
 use Rattle.model.specs.Search.{firstOf}
 use Rattle.model.proofs.Search.{first-none}

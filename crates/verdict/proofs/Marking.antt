@@ -1,20 +1,20 @@
 -- Filling the masks: what a loop over the machines, or over the ticks, has done.
 -- Assumes nothing.
 use Prim.Native.Nat.{ℕ, _+_, _-_, _*_, _≤_, _<_}
-use mathlib.Core.Path.{_≡_, refl, sym, _∙_, ap}
+use mathlib.Core.Path.{_≡_, sym, _∙_, ap}
 use mathlib.Core.List.{List, _++_}
-use mathlib.Core.Logic.{⊎-elim}
 use native.Mathlib.Omega.{arith}
 use native.Mathlib.Decide.{decLt, ℕ-discrete}
-use lib.ListN.{length, getD, set, take, drop, replicate, length-replicate, length-set, length-append, length-take, length-drop, List·getD-append}
+use lib.ListN.{length, getD, set, take, drop, replicate, List·getD-append}
+use lib.ListN.{length-replicate, length-set, length-drop}
 use lib.Seq.{getD-set-same, getD-set-other, getD-append-add, length-take-le, getD-take}
 use native.Mathlib.Nat.{zero-add}
 use borrow.Author.Count.{below-more}
 use borrow.Rule.Slice.PartMut.{putMid, postOf, same-len-mid}
 use Rattle.model.specs.Machine.{machineOf, hyperperiod}
-use Rattle.sheet.specs.Format.{machineCount, decode}
+use Rattle.sheet.specs.Format.{decode}
 use Rattle.walk.specs.Inside.{Marks, AllMarked}
-use Rattle.verdict.specs.Inside.{Masks, Idle, Lowest, Counted}
+use Rattle.verdict.specs.Inside.{Masks, Idle, Counted}
 
 pub idle-begin : {masks : List ℕ} {t : ℕ} → Idle masks t 0
 idle-begin = record { before = λ j l. absurd (omega arith) }
@@ -37,6 +37,14 @@ module _ {b : List ℕ} {machines h : ℕ} (counted : Counted b machines h) wher
   pub period-short : h ≤ 1024
   period-short = omega (arith, counted .period, counted .accepted .hyperperiod .1)
 
+  -- machine j's part of the masks has H words
+  pub part-long : {j : ℕ} {masks : List ℕ} → Filled b h j masks → j < machines
+      → length (take (1024 * j + h - 1024 * j) (drop (1024 * j) masks)) ≡ h
+  part-long {j} {masks} f l =
+      length-take-le (1024 * j + h - 1024 * j) (drop (1024 * j) masks)
+      (rw (length-drop (1024 * j) masks, f .long) (omega (arith, machines-few, period-short)))
+      ∙ omega arith
+
   -- machine j's part of the masks is filled, too
   pub filled-more : {j : ℕ} {masks : List ℕ} (part : List ℕ) → Filled b h j masks → j < machines
       → length part ≡ length (take (1024 * j + h - 1024 * j) (drop (1024 * j) masks)) → AllMarked (machineOf (decode b) j) 0 part
@@ -55,11 +63,7 @@ module _ {b : List ℕ} {machines h : ℕ} (counted : Counted b machines h) wher
       head = length-take-le (1024 * j) masks (omega (arith, f .long, machines-few))
 
       size : length part ≡ h
-      size =
-          e
-          ∙ length-take-le (1024 * j + h - 1024 * j) (drop (1024 * j) masks)
-          (rw (length-drop (1024 * j) masks, f .long) (omega (arith, machines-few, period-short)))
-          ∙ omega arith
+      size = e ∙ part-long f l
 
       after : List ℕ
       after = part ++ postOf (1024 * j) (1024 * j + h - 1024 * j) masks

@@ -3,14 +3,14 @@ use Rattle.text.proofs.Laws.{word-digits, spaced-begin, spaced-more, sp
 use Rattle.text.specs.Inside.{Put}
 use Rattle.text.specs.Text.{decimal, spaced}
 use lib.ListN.{length, take, getD}
-use mathlib.Core.Path.{_≡_}
 use native.Mathlib.Omega.{arith}
 use Prim.Native.Nat.{_+_, _*_, _-_, _≤_}
 use Rattle.text.proofs.put_spaced.Statement.{statement}
 use Rattle.text.proofs.put_spaced.Tie as tie
 
 abbrev Inv-loop : tie.InvT-loop
-Inv-loop out₀ at numbers next₀ i₀ out next i = (i ≤ length numbers) × (next ≤ at + 11 * i) × Put out₀ at (spaced (take i numbers)) next out
+Inv-loop out₀ at numbers next₀ i₀ out next i =
+    (i ≤ length numbers) × (next ≤ at + 11 * i) × Put out₀ at (spaced (take i numbers)) next out
 
 abbrev μ-loop : tie.MeasureT-loop
 μ-loop out₀ at numbers next₀ i₀ out next i = length numbers - i
@@ -23,10 +23,11 @@ room : (c : tie.After-shared-slice-known2 Inv-loop μ-loop)
     ≤ head .before .before .before .args .at + 11 * (head .loop .i + 1)
 room c =
     let head = c .before .before .before .before .before .before .before in
+    let number = getD (head .before .before .before .args .numbers .now) (head .loop .i) 0 in
     omega (
       arith,
       c .before .before .before .before .put-byte .ensures .next,
-      word-digits (getD (head .before .before .before .args .numbers .now) (head .loop .i) 0) (c .shared-slice-known2 .given (head .loop .i) .fits),
+      word-digits number (c .shared-slice-known2 .given (head .loop .i) .fits),
     )
 
 loop-holds : tie.Need-loop-holds Inv-loop μ-loop
@@ -53,10 +54,12 @@ loop-less c = omega arith
 loop-again : tie.Need-loop-again Inv-loop μ-loop
 loop-again c =
     let read = c .before .before .before in
-    let head = read .before .before .before .before .before .before .before in (
+    let head = read .before .before .before .before .before .before .before in
+    let numbers = head .before .before .before .args .numbers .now in (
       omega arith,
       omega (arith, room read, c .before .before .put-decimal .ensures .next),
-      spaced-more (head .before .before .before .args .numbers .now) (head .loop .inv .2) (read .before .before .before .before .put-byte .ensures) (c .before .before .put-decimal .ensures) (omega arith),
+      spaced-more numbers (head .loop .inv .2) (read .before .before .before .before .put-byte .ensures)
+          (c .before .before .put-decimal .ensures) (omega arith),
     )
 
 same-length : tie.Need-same-length Inv-loop μ-loop

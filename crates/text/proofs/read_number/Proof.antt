@@ -1,4 +1,5 @@
-use Rattle.text.proofs.Reading.{Reading, empty-none, reading-begin, reading-more, reading-low, reading-high, reading-past, reading-end}
+use Rattle.text.proofs.Reading.{Reading, empty-none, reading-begin, reading-more, reading-end}
+use Rattle.text.proofs.Reading.{reading-low, reading-high, reading-past}
 use lib.ListN.{length}
 use native.Mathlib.Omega.{arith}
 use Prim.Native.Nat.{_-_, _≤_}
@@ -23,12 +24,14 @@ read-byte-requires c κs = omega arith
 returns-2 : tie.Need-returns-2 Inv-loop μ-loop
 returns-2 c =
     let head = c .before .before .before in
-    reading-low (head .loop .inv .2) _ (c .before .before .loop-test .taken) (c .before .read-byte .ensures .0) (c .if2 .taken)
+    reading-low (head .loop .inv .2) _ (c .before .before .loop-test .taken) (c .before .read-byte .ensures .0)
+    (c .if2 .taken)
 
 returns-3 : tie.Need-returns-3 Inv-loop μ-loop
 returns-3 c =
     let turn = c .before .before .before in
-    reading-high (turn .before .loop .inv .2) _ (turn .loop-test .taken) (c .before .before .read-byte .ensures .0) (c .before .if2 .left) (c .if3 .taken)
+    reading-high (turn .before .loop .inv .2) _ (turn .loop-test .taken) (c .before .before .read-byte .ensures .0)
+    (c .before .if2 .left) (c .if3 .taken)
 
 mul-value : tie.Need-mul-value Inv-loop μ-loop
 mul-value c = omega arith
@@ -39,7 +42,8 @@ add-value c = omega arith
 returns-4 : tie.Need-returns-4 Inv-loop μ-loop
 returns-4 c =
     let read = c .before .before .before in
-    reading-past (read .before .before .loop .inv .2) _ (read .before .loop-test .taken) (read .read-byte .ensures .0) (c .before .before .if2 .left) (c .before .if3 .left) (c .if4 .taken)
+    reading-past (read .before .before .loop .inv .2) _ (read .before .loop-test .taken) (read .read-byte .ensures .0)
+    (c .before .before .if2 .left) (c .before .if3 .left) (c .if4 .taken)
 
 add-i : tie.Need-add-i Inv-loop μ-loop
 add-i c = omega arith
@@ -49,8 +53,12 @@ loop-less c = omega arith
 
 loop-again : tie.Need-loop-again Inv-loop μ-loop
 loop-again c =
-    let read = c .before .before .before in
-    (omega arith, c .if4 .left, reading-more (read .before .before .loop .inv .2) _ (read .before .loop-test .taken) (read .read-byte .ensures .0) (c .before .before .if2 .left) (c .before .if3 .left) (c .if4 .left))
+    let read = c .before .before .before in (
+      omega arith,
+      c .if4 .left,
+      reading-more (read .before .before .loop .inv .2) _ (read .before .loop-test .taken) (read .read-byte .ensures .0)
+          (c .before .before .if2 .left) (c .before .if3 .left) (c .if4 .left),
+    )
 
 cast-t11 : tie.Need-cast-t11 Inv-loop μ-loop
 cast-t11 c = omega arith

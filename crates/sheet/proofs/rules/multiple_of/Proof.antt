@@ -7,26 +7,33 @@ use Rattle.number.proofs.Divide.{lcm-positive}
 use Rattle.number.specs.Divide.{fold, lcm}
 use lib.ListN.{length}
 use native.Mathlib.Omega.{arith}
-use mathlib.Core.Path.{_≡_, sym, _∙_, ap}
+use mathlib.Core.Path.{_≡_, _∙_, ap}
 use Prim.Native.Nat.{_+_, _*_, _≤_, _<_, _-_}
 use Rattle.sheet.proofs.rules.multiple_of.Statement.{statement}
 use Rattle.sheet.proofs.rules.multiple_of.Tie as tie
 
 abbrev Inv-loop : tie.InvT-loop
-Inv-loop sheet machine h actions first multiple₀ j₀ multiple j = (j ≤ actions) × Between 1 1024 multiple × Taking lcm (machineOf (decode sheet) machine) multiple j (fold lcm h (periods (machineOf (decode sheet) machine)))
+Inv-loop sheet machine h actions first multiple₀ j₀ multiple j =
+    let m = machineOf (decode sheet) machine in
+    (j ≤ actions) × Between 1 1024 multiple × Taking lcm m multiple j (fold lcm h (periods m))
 
 abbrev μ-loop : tie.MeasureT-loop
 μ-loop sheet machine h actions first multiple₀ j₀ multiple j = actions - j
 
 -- the action that a turn reads stands inside the sheet
-inside : (c : tie.In-loop Inv-loop μ-loop) → c .before .before .first-action .result + 8 * c .before .loop .j + 8 ≤ length (c .before .before .before .before .before .args .sheet .now)
+inside : (c : tie.In-loop Inv-loop μ-loop)
+    → let sheet = c .before .before .before .before .before .args .sheet .now in
+    c .before .before .first-action .result + 8 * c .before .loop .j + 8 ≤ length sheet
 inside c =
     let start = c .before .before .before .before .before in
     action-inside (start .pre .0 .filled) (start .pre .1) (c .before .before .before .action-count .ensures)
     (c .before .before .first-action .ensures) (c .loop-test .taken)
 
 -- its period, and that it is in range
-read : (c : tie.After-period Inv-loop μ-loop) → c .period .result ≡ actionOf (machineOf (decode (c .before .before .before .before .before .before .args .sheet .now)) (c .before .before .before .before .before .before .args .machine)) (c .before .before .loop .j) .period
+read : (c : tie.After-period Inv-loop μ-loop)
+    → let start = c .before .before .before .before .before .before .args in
+    let m = machineOf (decode (start .sheet .now)) (start .machine) in
+    c .period .result ≡ actionOf m (c .before .before .loop .j) .period
 read c =
     let turn = c .before in
     let start = turn .before .before .before .before .before in
@@ -38,11 +45,13 @@ in-range : (c : tie.After-period Inv-loop μ-loop) → Between 1 1024 (c .period
 in-range c =
     let turn = c .before in
     let start = turn .before .before .before .before .before in
-    rw (read c) (start .pre .0 .period _ _ (start .pre .1) (omega (arith, turn .before .before .before .action-count .ensures)))
+    let count = turn .before .before .before .action-count .ensures in
+    rw (read c) (start .pre .0 .period _ _ (start .pre .1) (omega (arith, count)))
 
 -- the multiple with the turn's period
 positive : (c : tie.After-lcm-of Inv-loop μ-loop) → 0 < c .lcm-of .result
-positive c = rw (c .lcm-of .ensures) (lcm-positive _ _ (c .before .before .before .loop .inv .1 .0) (in-range (c .before) .0))
+positive c =
+    rw (c .lcm-of .ensures) (lcm-positive _ _ (c .before .before .before .loop .inv .1 .0) (in-range (c .before) .0))
 
 -- with the periods that are left it makes up the whole
 next : (c : tie.After-lcm-of Inv-loop μ-loop)
@@ -78,7 +87,8 @@ lcm-of-requires c κs = omega (arith, in-range c)
 returns : tie.Need-returns Inv-loop μ-loop
 returns c =
     let start = c .before .before .before .before .before .before .before .before in
-    let rises = taking-rises (next (c .before)) (positive (c .before)) (machine-positive _ (start .pre .0) (start .pre .1)) in
+    let periods = machine-positive _ (start .pre .0) (start .pre .1) in
+    let rises = taking-rises (next (c .before)) (positive (c .before)) periods in
     record { exact = λ l. absurd (omega arith); above = λ l. omega arith }
 
 add-j : tie.Need-add-j Inv-loop μ-loop

@@ -1,28 +1,42 @@
-use Prim.Native.Nat.{_≤_}
+use Rattle.sheet.proofs.First.{broken-here, kept-here, orElse-found, orElse-clear}
 use Rattle.sheet.proofs.Tests.{between-true}
-use Rattle.sheet.specs.Rules.{between, same, trailerInRange}
-use Rattle.sheet.specs.Format.{machineCount, lastFour, mark}
-use borrow.Author.Tests.{not-true, not-false}
+use Rattle.sheet.specs.Format.{machineCount}
+use Rattle.sheet.specs.Inside.{trailerRules}
+use Rattle.sheet.specs.Rules.{_orElse_, between, rule2, rule3, rule4}
+use Prim.Native.Nat.{_≤_}
+use borrow.Author.Needs.{needs}
+use borrow.Author.Tests.{not-false}
 use lib.ListN.{length}
 use native.Mathlib.Omega.{arith}
-use mathlib.Core.Bool.{true, false}
 use mathlib.Core.Path.{_≡_, sym, _∙_, ap}
-use borrow.Author.Needs.{needs}
 use Rattle.sheet.proofs.rules.trailer_rules.Statement.{statement}
 use Rattle.sheet.proofs.rules.trailer_rules.Tie as tie
 
--- what rules 1, 2 and 3 have shown where they are passed
-in-length : (c : tie.Else1) → between 28 2124 (length (c .before .before .before .args .sheet .now)) ≡ true
-in-length c = sym (c .before .between .ensures) ∙ not-false _ (c .if1 .left)
-
 long : (c : tie.Else1) → 28 ≤ length (c .before .before .before .args .sheet .now)
-long c = between-true 28 2124 _ (in-length c) .0
+long c = between-true 28 2124 _ (sym (c .before .between .ensures) ∙ not-false _ (c .if1 .left)) .0
 
-has-mark : (c : tie.Else2) → same (lastFour (c .before .before .before .before .before .args .sheet .now)) mark ≡ true
-has-mark c = sym (c .before .marked .ensures) ∙ not-false _ (c .if2 .left)
+-- what is left of the rules where 1, 2 and 3 are kept
+past-one : (c : tie.Else1)
+    → let b = c .before .before .before .args .sheet .now in
+    trailerRules b ≡ rule2 b orElse rule3 b orElse rule4 b
+past-one c = orElse-clear _ (kept-here _ _ (c .before .between .ensures) (c .if1 .left))
 
-in-count : (c : tie.Else3) → between 1 8 (machineCount (c .before .before .before .before .before .before .before .before .args .sheet .now)) ≡ true
-in-count c = ap (between 1 8) (sym (c .before .before .machine-count .ensures .0)) ∙ sym (c .before .between2 .ensures) ∙ not-false _ (c .if3 .left)
+past-two : (c : tie.Else2)
+    → let b = c .before .before .before .before .before .args .sheet .now in
+    trailerRules b ≡ rule3 b orElse rule4 b
+past-two c = past-one (c .before .before) ∙ orElse-clear _ (kept-here _ _ (c .before .marked .ensures) (c .if2 .left))
+
+-- the test of the count that was read is the test of the count
+counted : (c : tie.After-between2)
+    → let b = c .before .before .before .before .before .before .before .args .sheet .now in
+    c .between2 .result ≡ between 1 8 (machineCount b)
+counted c = c .between2 .ensures ∙ ap (between 1 8) (c .before .machine-count .ensures .0)
+
+past-three : (c : tie.Else3)
+    → let b = c .before .before .before .before .before .before .before .before .args .sheet .now in
+    trailerRules b ≡ rule4 b
+past-three c =
+    past-two (c .before .before .before) ∙ orElse-clear _ (kept-here _ _ (counted (c .before)) (c .if3 .left))
 
 between-requires : tie.Need-between-requires
 between-requires c κs = search needs
@@ -31,7 +45,9 @@ broken-requires : tie.Need-broken-requires
 broken-requires c κs = search needs
 
 returns : tie.Need-returns
-returns c = c .broken .ensures ∙ rw (sym (c .before .before .between .ensures) ∙ not-true _ (c .before .if1 .taken))
+returns c =
+    c .broken .ensures
+    ∙ sym (orElse-found _ (broken-here _ _ (c .before .before .between .ensures) (c .before .if1 .taken)))
 
 marked-requires : tie.Need-marked-requires
 marked-requires c κs = omega (arith, long c)
@@ -40,7 +56,9 @@ broken-requires-2 : tie.Need-broken-requires-2
 broken-requires-2 c κs = search needs
 
 returns-2 : tie.Need-returns-2
-returns-2 c = c .broken2 .ensures ∙ rw (in-length (c .before .before .before), sym (c .before .before .marked .ensures) ∙ not-true _ (c .before .if2 .taken))
+returns-2 c =
+    let broken = broken-here _ _ (c .before .before .marked .ensures) (c .before .if2 .taken) in
+    c .broken2 .ensures ∙ sym (past-one (c .before .before .before) ∙ orElse-found _ broken)
 
 machine-count-requires : tie.Need-machine-count-requires
 machine-count-requires c κs = omega (arith, long (c .before .before))
@@ -52,7 +70,9 @@ broken-requires-3 : tie.Need-broken-requires-3
 broken-requires-3 c κs = search needs
 
 returns-3 : tie.Need-returns-3
-returns-3 c = c .broken3 .ensures ∙ rw (in-length (c .before .before .before .before .before .before), has-mark (c .before .before .before .before), ← (c .before .before .before .machine-count .ensures .0), sym (c .before .before .between2 .ensures) ∙ not-true _ (c .before .if3 .taken))
+returns-3 c =
+    let broken = broken-here _ _ (counted (c .before .before)) (c .before .if3 .taken) in
+    c .broken3 .ensures ∙ sym (past-two (c .before .before .before .before) ∙ orElse-found _ broken)
 
 trailer-in-range-requires : tie.Need-trailer-in-range-requires
 trailer-in-range-requires c κs = omega (arith, long (c .before .before .before .before .before))
@@ -61,10 +81,13 @@ broken-requires-4 : tie.Need-broken-requires-4
 broken-requires-4 c κs = search needs
 
 returns-4 : tie.Need-returns-4
-returns-4 c = c .broken4 .ensures ∙ rw (in-length (c .before .before .before .before .before .before .before .before), has-mark (c .before .before .before .before .before .before), in-count (c .before .before .before), sym (c .before .before .trailer-in-range .ensures) ∙ not-true _ (c .before .if4 .taken))
+returns-4 c =
+    let broken = broken-here _ _ (c .before .before .trailer-in-range .ensures) (c .before .if4 .taken) in
+    c .broken4 .ensures ∙ sym (past-three (c .before .before .before) ∙ broken)
 
 returns-5 : tie.Need-returns-5
-returns-5 c = rw (in-length (c .before .before .before .before .before .before .before), has-mark (c .before .before .before .before .before), in-count (c .before .before), sym (c .before .trailer-in-range .ensures) ∙ not-false _ (c .if4 .left))
+returns-5 c =
+    sym (past-three (c .before .before) ∙ kept-here _ _ (c .before .trailer-in-range .ensures) (c .if4 .left))
 
 pub trailer-rules-spec : {M : Type 1} → statement M
 trailer-rules-spec =

@@ -1,9 +1,7 @@
-use lib.ListN.{length-take, drop}
-use Rattle.verdict.proofs.Marking.{Filled, filled-begin, filled-more, filled-end, machines-few, period-short}
-use lib.ListN.{length}
-use mathlib.Core.Path.{_≡_}
+use Rattle.verdict.proofs.Marking.{Filled, filled-begin, filled-more, filled-end}
+use Rattle.verdict.proofs.Marking.{machines-few, period-short, part-long}
 use native.Mathlib.Omega.{arith}
-use Prim.Native.Nat.{_*_, _+_, _≤_, _-_}
+use Prim.Native.Nat.{_≤_, _-_}
 use Rattle.verdict.proofs.masks.masks_of.Statement.{statement}
 use Rattle.verdict.proofs.masks.masks_of.Tie as tie
 
@@ -13,20 +11,26 @@ Inv-loop sheet machines h masks₀ j₀ masks j = (j ≤ machines) × Filled she
 abbrev μ-loop : tie.MeasureT-loop
 μ-loop sheet machines h masks₀ j₀ masks j = machines - j
 
+-- the machines and the ticks of H are few
+few : (c : tie.Start Inv-loop μ-loop) → (c .args .machines ≤ 8) × (c .args .h ≤ 1024)
+few c = (machines-few (c .pre), period-short (c .pre))
+
 loop-holds : tie.Need-loop-holds Inv-loop μ-loop
 loop-holds c = (omega arith, filled-begin)
 
 mul-from : tie.Need-mul-from Inv-loop μ-loop
-mul-from c = omega (arith, machines-few (c .before .before .before .pre), period-short (c .before .before .before .pre))
+mul-from c = omega (arith, few (c .before .before .before))
 
 add-to : tie.Need-add-to Inv-loop μ-loop
-add-to c = omega (arith, machines-few (c .before .before .before .pre), period-short (c .before .before .before .pre))
+add-to c = omega (arith, few (c .before .before .before))
 
 entry-of-requires : tie.Need-entry-of-requires Inv-loop μ-loop
-entry-of-requires c κs = (c .before .before .before .pre .accepted, omega (arith, c .before .before .before .pre .count))
+entry-of-requires c κs =
+    let start = c .before .before .before in
+    (start .pre .accepted, omega (arith, start .pre .count))
 
 mul-masks : tie.Need-mul-masks Inv-loop μ-loop
-mul-masks c = omega (arith, machines-few (c .before .before .before .before .pre), period-short (c .before .before .before .before .pre))
+mul-masks c = omega (arith, few (c .before .before .before .before))
 
 sub-marks : tie.Need-sub-marks Inv-loop μ-loop
 sub-marks c = omega arith
@@ -35,10 +39,14 @@ part-masks-start : tie.Need-part-masks-start Inv-loop μ-loop
 part-masks-start c = omega arith
 
 part-masks-end : tie.Need-part-masks-end Inv-loop μ-loop
-part-masks-end c = omega (arith, machines-few (c .before .before .before .before .pre), period-short (c .before .before .before .before .pre), c .before .before .loop .inv .1 .long)
+part-masks-end c = omega (arith, few (c .before .before .before .before), c .before .before .loop .inv .1 .long)
 
 marks-requires : tie.Need-marks-requires Inv-loop μ-loop
-marks-requires c κs = (c .before .entry-of .ensures .1, omega (arith, machines-few (c .before .before .before .before .before .pre), period-short (c .before .before .before .before .before .pre), c .before .before .before .loop .inv .1 .long, length-take (1024 * c .before .before .before .loop .j + c .before .before .before .before .before .args .h - 1024 * c .before .before .before .loop .j) (drop (1024 * c .before .before .before .loop .j) (c .before .before .before .loop .masks))))
+marks-requires c κs =
+    let turn = c .before .before in
+    let start = turn .before .before .before in
+    let long = part-long (start .pre) (turn .before .loop .inv .1) (turn .loop-test .taken) in
+    (c .before .entry-of .ensures .1, omega (arith, few start, long))
 
 add-j : tie.Need-add-j Inv-loop μ-loop
 add-j c = omega arith
@@ -48,10 +56,11 @@ loop-less c = omega arith
 
 loop-again : tie.Need-loop-again Inv-loop μ-loop
 loop-again c =
-    let turn = c .before .before .before .before in (
+    let turn = c .before .before .before .before in
+    let entry = c .before .before .before .entry-of .ensures in (
       omega arith,
-      filled-more (c .before .before .before .before .before .before .before .pre) _ (turn .before .loop .inv .1) (turn .loop-test .taken) (c .before .marks .kept .1 .1 .1 .0)
-          (rw (c .before .before .before .entry-of .ensures .0) at (c .before .marks .ensures)),
+      filled-more (turn .before .before .before .pre) _ (turn .before .loop .inv .1) (turn .loop-test .taken)
+          (c .before .marks .kept .1 .1 .1 .0) (rw (entry .0) at (c .before .marks .ensures)),
     )
 
 returns : tie.Need-returns Inv-loop μ-loop
