@@ -104,6 +104,6 @@ pub fn put_row(out: &mut [u8], at: usize, first: u32, others: &[u32]) -> usize
     ensures { λ r. ⌜ Put (now (out .entry)) at (row first (now (others .entry))) r (now (out .exit)) × (r ≤ at + (11 * length (now (others .entry)) + 11)) ⌝ }
 {
     let next = put_decimal(out, at, first);
-    let last = put_spaced(out, next, others);
-    put_byte(out, last, 10)
+    let end = put_spaced(out, next, others);
+    put_byte(out, end, 10)
 }
