@@ -102,7 +102,8 @@ fn put_pairs(out: &mut [u8], at: usize, words: &[u32], pairs: usize) -> usize
 // The request table from `from` on, a number a line, or the refusal.
 fn put_table(out: &mut [u8], sheet: &[u8], machine: u32, from: u32, length: u32) -> usize
     requires { ⌜ 65536 ≤ ListN·length (now out) ⌝ }
-    ensures { λ r. ⌜ Put (now (out .entry)) 0 (answerText Table (now (sheet .entry)) machine from length) r (now (out .exit)) ⌝ }
+    ensures { λ r. ⌜ Put (now (out .entry)) 0 (answerText Table (now (sheet .entry)) machine from length)
+        r (now (out .exit)) ⌝ }
 {
     let mut words = [0u32; 4096];
     let tabled = bounds::table(sheet, machine, from, length, &mut words);
@@ -115,7 +116,8 @@ fn put_table(out: &mut [u8], sheet: &[u8], machine: u32, from: u32, length: u32)
 // The critical sequence's number of pairs and a line for each, or the refusal.
 fn put_critical(out: &mut [u8], sheet: &[u8], machine: u32, from: u32, to: u32) -> usize
     requires { ⌜ 65536 ≤ ListN·length (now out) ⌝ }
-    ensures { λ r. ⌜ Put (now (out .entry)) 0 (answerText Critical (now (sheet .entry)) machine from to) r (now (out .exit)) ⌝ }
+    ensures { λ r. ⌜ Put (now (out .entry)) 0 (answerText Critical (now (sheet .entry)) machine from to)
+        r (now (out .exit)) ⌝ }
 {
     let mut words = [0u32; 4096];
     let answer = critical::critical(sheet, machine, from, to, &mut words);
@@ -131,7 +133,8 @@ fn put_critical(out: &mut [u8], sheet: &[u8], machine: u32, from: u32, to: u32) 
 // The answer to a question of the kind.
 fn put_answer(out: &mut [u8], sheet: &[u8], kind: Kind, machine: u32, from: u32, to: u32) -> usize
     requires { ⌜ 65536 ≤ ListN·length (now out) ⌝ }
-    ensures { λ r. ⌜ Put (now (out .entry)) 0 (answerText kind (now (sheet .entry)) machine from to) r (now (out .exit)) ⌝ }
+    ensures { λ r. ⌜ Put (now (out .entry)) 0 (answerText kind (now (sheet .entry)) machine from to)
+        r (now (out .exit)) ⌝ }
 {
     match kind {
         Kind::Request => put_figure(out, bounds::request(sheet, machine, from, to)),
@@ -154,8 +157,10 @@ pub fn ask(
     to: &[u8],
     out: &mut [u8],
 ) -> usize
-    ensures { λ r. ⌜ r ≡ printedLength 65536 (askText (now (sheet .entry)) (now (question .entry)) (now (machine .entry)) (now (from .entry)) (now (to .entry))) (now (out .entry)) ⌝ }
-    ensures { λ _. ⌜ now (out .exit) ≡ printed 65536 (askText (now (sheet .entry)) (now (question .entry)) (now (machine .entry)) (now (from .entry)) (now (to .entry))) (now (out .entry)) ⌝ }
+    ensures { λ r. ⌜ r ≡ printedLength 65536 (askText (now (sheet .entry)) (now (question .entry))
+        (now (machine .entry)) (now (from .entry)) (now (to .entry))) (now (out .entry)) ⌝ }
+    ensures { λ _. ⌜ now (out .exit) ≡ printed 65536 (askText (now (sheet .entry)) (now (question .entry))
+        (now (machine .entry)) (now (from .entry)) (now (to .entry))) (now (out .entry)) ⌝ }
 {
     if out.len() < 65536 {
         return 0;

@@ -29,7 +29,8 @@ pub fn put_refused(out: &mut [u8], at: usize, refusal: Refusal) -> usize
 // The request bound of [0, H) of a machine.
 fn whole_request(sheet: &[u8], machine: usize, h: u32) -> u32
     requires { ⌜ Admitted (now sheet) h × (machine < machineCount (now sheet)) ⌝ }
-    ensures { λ r. ⌜ r ≡ request (machineOf (decode (now (sheet .entry))) machine) 0 (hyperperiod (decode (now (sheet .entry)))) ⌝ }
+    ensures { λ r. ⌜ r ≡ request (machineOf (decode (now (sheet .entry))) machine) 0
+        (hyperperiod (decode (now (sheet .entry)))) ⌝ }
 {
     let answer = bounds::request(sheet, machine as u32, 0, h);
     match answer {
@@ -41,7 +42,8 @@ fn whole_request(sheet: &[u8], machine: usize, h: u32) -> u32
 // The line of a machine.
 fn put_machine(out: &mut [u8], at: usize, sheet: &[u8], machine: usize, h: u32) -> usize
     requires { ⌜ Admitted (now sheet) h × (machine < machineCount (now sheet)) × (at + 46 ≤ length (now out)) ⌝ }
-    ensures { λ r. ⌜ Put (now (out .entry)) at (machineLine (decode (now (sheet .entry))) machine) r (now (out .exit)) × (r ≤ at + 46) ⌝ }
+    ensures { λ r. ⌜ Put (now (out .entry)) at (machineLine (decode (now (sheet .entry))) machine) r (now (out .exit))
+        × (r ≤ at + 46) ⌝ }
 {
     let states = read::states(sheet, machine) as u32;
     let actions = read::action_count(sheet, machine) as u32;
@@ -52,8 +54,10 @@ fn put_machine(out: &mut [u8], at: usize, sheet: &[u8], machine: usize, h: u32) 
 
 // The lines of the machines.
 fn put_machines(out: &mut [u8], at: usize, sheet: &[u8], machines: usize, h: u32) -> usize
-    requires { ⌜ Admitted (now sheet) h × (machines ≡ machineCount (now sheet)) × (at + 46 * machines ≤ length (now out)) ⌝ }
-    ensures { λ r. ⌜ Put (now (out .entry)) at (machineLines (decode (now (sheet .entry))) machines) r (now (out .exit)) × (r ≤ at + 46 * machines) ⌝ }
+    requires { ⌜ Admitted (now sheet) h × (machines ≡ machineCount (now sheet))
+        × (at + 46 * machines ≤ length (now out)) ⌝ }
+    ensures { λ r. ⌜ Put (now (out .entry)) at (machineLines (decode (now (sheet .entry))) machines) r (now (out .exit))
+        × (r ≤ at + 46 * machines) ⌝ }
 {
     let mut next = at;
     let mut k = 0;
@@ -67,7 +71,8 @@ fn put_machines(out: &mut [u8], at: usize, sheet: &[u8], machines: usize, h: u32
 // The line of the verdict.
 fn put_verdict(out: &mut [u8], at: usize, sheet: &[u8]) -> usize
     requires { ⌜ (refusalOf (now sheet) ≡ none) × (at + 49 ≤ length (now out)) ⌝ }
-    ensures { λ r. ⌜ Put (now (out .entry)) at (verdictLine (verdict (decode (now (sheet .entry))))) r (now (out .exit)) ⌝ }
+    ensures { λ r. ⌜ Put (now (out .entry)) at (verdictLine (verdict (decode (now (sheet .entry)))))
+        r (now (out .exit)) ⌝ }
 {
     let judged = verdict::judge(sheet);
     match judged {

@@ -76,7 +76,8 @@ pub fn put_decimal(out: &mut [u8], at: usize, n: u32) -> usize
 // Numbers, each after a space.
 pub fn put_spaced(out: &mut [u8], at: usize, numbers: &[u32]) -> usize
     requires { ⌜ at + 11 * length (now numbers) ≤ length (now out) ⌝ }
-    ensures { λ r. ⌜ Put (now (out .entry)) at (spaced (now (numbers .entry))) r (now (out .exit)) × (r ≤ at + 11 * length (now (numbers .entry))) ⌝ }
+    ensures { λ r. ⌜ Put (now (out .entry)) at (spaced (now (numbers .entry))) r (now (out .exit))
+        × (r ≤ at + 11 * length (now (numbers .entry))) ⌝ }
 {
     let mut next = at;
     let mut i = 0;
@@ -91,7 +92,8 @@ pub fn put_spaced(out: &mut [u8], at: usize, numbers: &[u32]) -> usize
 // A word and numbers, as a line of their own.
 pub fn put_line(out: &mut [u8], at: usize, word: &[u8], numbers: &[u32]) -> usize
     requires { ⌜ at + (length (now word) + (11 * length (now numbers) + 1)) ≤ length (now out) ⌝ }
-    ensures { λ r. ⌜ Put (now (out .entry)) at (line (now (word .entry)) (now (numbers .entry))) r (now (out .exit)) × (r ≤ at + (length (now (word .entry)) + (11 * length (now (numbers .entry)) + 1))) ⌝ }
+    ensures { λ r. ⌜ Put (now (out .entry)) at (line (now (word .entry)) (now (numbers .entry))) r (now (out .exit))
+        × (r ≤ at + (length (now (word .entry)) + (11 * length (now (numbers .entry)) + 1))) ⌝ }
 {
     let first = put_bytes(out, at, word);
     let last = put_spaced(out, first, numbers);
@@ -101,7 +103,8 @@ pub fn put_line(out: &mut [u8], at: usize, word: &[u8], numbers: &[u32]) -> usiz
 // Numbers, at least one, as a line of their own.
 pub fn put_row(out: &mut [u8], at: usize, first: u32, others: &[u32]) -> usize
     requires { ⌜ at + (11 * length (now others) + 11) ≤ length (now out) ⌝ }
-    ensures { λ r. ⌜ Put (now (out .entry)) at (row first (now (others .entry))) r (now (out .exit)) × (r ≤ at + (11 * length (now (others .entry)) + 11)) ⌝ }
+    ensures { λ r. ⌜ Put (now (out .entry)) at (row first (now (others .entry))) r (now (out .exit))
+        × (r ≤ at + (11 * length (now (others .entry)) + 11)) ⌝ }
 {
     let next = put_decimal(out, at, first);
     let end = put_spaced(out, next, others);

@@ -80,7 +80,8 @@ pub fn judge(sheet: &[u8]) -> Verdict
 // What the machines of an accepted sheet give.
 fn walked(sheet: &[u8], machines: usize, h: usize) -> Given
     requires { ⌜ Counted (now sheet) machines h ⌝ }
-    ensures { λ r. ⌜ found r ≡ firstOf (machineGives (decode (now (sheet .entry)))) 0 (machineCount (now (sheet .entry))) ⌝ }
+    ensures { λ r. ⌜ found r ≡ firstOf (machineGives (decode (now (sheet .entry)))) 0
+        (machineCount (now (sheet .entry))) ⌝ }
 {
     let masks = masks::masks_of(sheet, machines, h);
     let lowest = masks::lowest_of(&masks, machines, h);

@@ -10,7 +10,8 @@ use crate::Line;
 
 // A machine's line after a tick at which the actions of the mask have an instant.
 fn line_moved(sheet: &[u8], machine: usize, mask: u32, line: Line) -> Line
-    requires { ⌜ Accepted (now sheet) × (machine < machineCount (now sheet)) × Standing (machineOf (decode (now sheet)) machine) mask line ⌝ }
+    requires { ⌜ Accepted (now sheet) × (machine < machineCount (now sheet))
+        × Standing (machineOf (decode (now sheet)) machine) mask line ⌝ }
     ensures { λ r. ⌜ Moved (machineOf (decode (now (sheet .entry))) machine) mask line r ⌝ }
 {
     if mask == 0 {

@@ -106,7 +106,8 @@ pub(crate) fn machines_judged(
     h: usize,
 ) -> Given
     requires { ⌜ Marked (now sheet) (now masks) (now lowest) h × (machines ≡ machineCount (now sheet)) ⌝ }
-    ensures { λ r. ⌜ found r ≡ firstOf (machineGives (decode (now (sheet .entry)))) 0 (machineCount (now (sheet .entry))) ⌝ }
+    ensures { λ r. ⌜ found r ≡ firstOf (machineGives (decode (now (sheet .entry)))) 0
+        (machineCount (now (sheet .entry))) ⌝ }
 {
     let mut machine = 0;
     while machine < machines {

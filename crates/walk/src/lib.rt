@@ -110,7 +110,8 @@ pub fn tick(sheet: &[u8], entry: Entry, mask: u32, old: [u32; 16]) -> [u32; 16]
 // Raises the row at the sink of the action at `at`; `old` has the figures before the tick.
 fn push(sheet: &[u8], at: usize, old: &[u32; 16], row: &mut [u32; 16])
     requires { ⌜ Joins (now sheet) at (now old) × (length (now row) ≡ 16) ⌝ }
-    ensures { λ _. ⌜ now (row .exit) ≡ pushed (actionAt (now (sheet .entry)) at) (now (old .entry)) (now (row .entry)) ⌝ }
+    ensures { λ _. ⌜ now (row .exit) ≡ pushed (actionAt (now (sheet .entry)) at)
+        (now (old .entry)) (now (row .entry)) ⌝ }
 {
     let sink = read::sink(sheet, at);
     let figure = brought(sheet, at, old);
