@@ -19,7 +19,7 @@ use std::process::Command;
 use std::time::{Duration, Instant};
 
 /// Every contender is timed once in each round, one after the other.
-const ROUNDS: usize = 15;
+const ROUNDS: usize = 25;
 /// So long at least is what is timed at once.
 const LEAST: Duration = Duration::from_millis(60);
 /// The first five, as they come.
@@ -27,12 +27,13 @@ const SEEDS: [u64; 5] = [1, 2, 3, 4, 5];
 
 /// What a reader of the table has to know about its figures.
 const NOTES: &str = "
-Medians. Proved: as many calls of judge as of check through a stream, the time of check taken off.
-The walks in Rust are timed after the check. The shorter the walks, the more of the time goes into
-finding the instants once, and the smaller is the gain over the plain walk.
+The least of 25 times, in turns, since another process can only lengthen one. Proved: as many
+calls of judge as of check through a stream, the time of check taken off. The walks in Rust are
+timed after the check. The shorter the walks, the more of the time goes into finding the instants
+once, and the smaller is the gain over the plain walk.
 ";
 
-/// A table of medians for these files of sheets, and for seeded heavy sheets.
+/// A table of least times for these files of sheets, and for seeded heavy sheets.
 pub fn table(program: &str, files: &[&str]) -> Result<String, String> {
     let mut table = String::from(
         "| sheet | verdict | proved | same method in Rust | swift walk | plain walk | \
@@ -51,7 +52,7 @@ pub fn table(program: &str, files: &[&str]) -> Result<String, String> {
 
 fn line(program: &str, name: &str, bytes: &[u8]) -> Result<String, String> {
     let sheet = check(bytes).map_err(|refusal| format!("{name}: {refusal:?}"))?;
-    let [proved, same, swift, plain] = medians(program, bytes, &sheet)?;
+    let [proved, same, swift, plain] = least_times(program, bytes, &sheet)?;
     let milliseconds = |time: f64| format!("{:.3} ms", 1_000.0 * time);
     Ok(format!(
         "| {name} | {} | {} | {} | {} | {} | {:.2} | {:.3} |\n",
@@ -65,8 +66,8 @@ fn line(program: &str, name: &str, bytes: &[u8]) -> Result<String, String> {
     ))
 }
 
-/// The median times of one verdict, in seconds: proved, same method, swift walk, plain walk.
-fn medians(program: &str, bytes: &[u8], sheet: &Sheet) -> Result<[f64; 4], String> {
+/// The least times of one verdict, in seconds: proved, same method, swift walk, plain walk.
+fn least_times(program: &str, bytes: &[u8], sheet: &Sheet) -> Result<[f64; 4], String> {
     let judge = |count| run_time(program, &Call::Judge, bytes, count);
     let check = |count| run_time(program, &Call::Check, bytes, count);
     let same = |count| walk_time(count, || same_method(black_box(bytes), sheet));
@@ -74,24 +75,28 @@ fn medians(program: &str, bytes: &[u8], sheet: &Sheet) -> Result<[f64; 4], Strin
     let plain = |count| walk_time(count, || plain_walk(black_box(sheet)));
     let judged = enough(judge)?;
     let walked = [enough(same)?, enough(swift)?, enough(plain)?];
-    let mut times: [Vec<f64>; 4] = Default::default();
+    let mut least = [Duration::MAX; 5];
     for _ in 0..ROUNDS {
-        let walking = judge(judged)?.saturating_sub(check(judged)?);
-        times[0].push(each(walking, judged));
-        times[1].push(each(same(walked[0])?, walked[0]));
-        times[2].push(each(swift(walked[1])?, walked[1]));
-        times[3].push(each(plain(walked[2])?, walked[2]));
+        let times = [
+            judge(judged)?,
+            check(judged)?,
+            same(walked[0])?,
+            swift(walked[1])?,
+            plain(walked[2])?,
+        ];
+        least = std::array::from_fn(|k| least[k].min(times[k]));
     }
-    Ok(times.map(median))
+    let [judge, check, same, swift, plain] = least;
+    Ok([
+        each(judge.saturating_sub(check), judged),
+        each(same, walked[0]),
+        each(swift, walked[1]),
+        each(plain, walked[2]),
+    ])
 }
 
 fn each(time: Duration, count: u32) -> f64 {
     time.as_secs_f64() / f64::from(count)
-}
-
-fn median(mut times: Vec<f64>) -> f64 {
-    times.sort_by(f64::total_cmp);
-    times[times.len() / 2]
 }
 
 /// How often something must be done for a time that can be trusted.
