@@ -40,7 +40,6 @@ pub(crate) fn start_judged(
     requires { ⌜ Marked (now sheet) (now masks) (now lowest) h × (machine < machineCount (now sheet)) × (start < h) ⌝ }
     ensures { λ r. ⌜ found r ≡ gives (decode (now (sheet .entry))) machine start ⌝ }
 {
-    let entry = walk::entry_of(sheet, machine);
     let mut level = lines::level_begun(masks[1024 * machine + start]);
     let mut slack = 0;
     let mut place = start;
@@ -57,6 +56,7 @@ pub(crate) fn start_judged(
         }
         slack = slack_after(slack, n, level.above);
         if slack < level.own {
+            let entry = walk::entry_of(sheet, machine);
             let demand = walk::due_within(sheet, entry, level.mask, &level.row, n - level.last);
             if slack < demand {
                 return Given::Late(Window {

@@ -18,18 +18,18 @@ use Rattle.verdict.proofs.starts.start_judged.Statement.{statement}
 use Rattle.verdict.proofs.starts.start_judged.Tie as tie
 
 abbrev Inv-loop : tie.InvT-loop
-Inv-loop sheet masks lowest machine start h entry level₀ slack₀ place₀ n₀ level slack place n =
+Inv-loop sheet masks lowest machine start h level₀ slack₀ place₀ n₀ level slack place n =
     (n ≤ 2048) × Walked sheet machine start h n level slack place
 
 abbrev μ-loop : tie.MeasureT-loop
-μ-loop sheet masks lowest machine start h entry level₀ slack₀ place₀ n₀ level slack place n = 2048 - n
+μ-loop sheet masks lowest machine start h level₀ slack₀ place₀ n₀ level slack place n = 2048 - n
 
 -- the loop's head before a tick, and the function's entry, seen from the head and from after the tick
 abbrev head : tie.Joined1 Inv-loop μ-loop → tie.At-loop Inv-loop μ-loop
 head c = c .before .before .before
 
 abbrev entered : tie.At-loop Inv-loop μ-loop → tie.Start Inv-loop μ-loop
-entered c = c .before .before .before .before .before .before .before
+entered c = c .before .before .before .before .before .before
 
 abbrev begun : tie.Joined1 Inv-loop μ-loop → tie.Start Inv-loop μ-loop
 begun c = entered (head c)
@@ -87,31 +87,28 @@ sizes : (c : tie.Start Inv-loop μ-loop) → MachineSizes (machineOf (decode (c 
 sizes c = machine-sizes (c .pre .0 .accepted) _ (c .pre .1)
 
 due : (c : tie.After-due-within Inv-loop μ-loop)
-    → let join = c .before .before .before .before .before .before .before in
+    → let join = c .before .before .before .before .before .before .before .before in
     let start = begun join .args in
     c .due-within .result
     ≡ demand (machineOf (decode (start .sheet .now)) (start .machine)) (start .start) (head join .loop .n + 1)
 due c =
-    let join = c .before .before .before .before .before .before .before in
-    let entry = head join .before .before .before .entry-of .ensures in
+    let join = c .before .before .before .before .before .before .before .before in
+    let entry = c .before .before .before .entry-of .ensures in
     let last = come join .last in
     last-demand (sizes (begun join)) last (omega (arith, last .last .early)) (rw (entry .0) at (c .due-within .ensures))
 
-entry-of-requires : tie.Need-entry-of-requires Inv-loop μ-loop
-entry-of-requires c κs = (c .before .before .before .pre .0 .accepted, c .before .before .before .pre .1)
-
 mul-level-begun : tie.Need-mul-level-begun Inv-loop μ-loop
-mul-level-begun c = omega (arith, few (c .before .before .before .before))
+mul-level-begun c = omega (arith, few (c .before .before .before))
 
 add-level-begun : tie.Need-add-level-begun Inv-loop μ-loop
-add-level-begun c = omega (arith, few (c .before .before .before .before))
+add-level-begun c = omega (arith, few (c .before .before .before))
 
 mul-level-begun-2 : tie.Need-mul-level-begun-2 Inv-loop μ-loop
-mul-level-begun-2 c = omega (arith, few (c .before .before .before .before))
+mul-level-begun-2 c = omega (arith, few (c .before .before .before))
 
 shared-slice-read-level-begun : tie.Need-shared-slice-read-level-begun Inv-loop μ-loop
 shared-slice-read-level-begun c =
-    let start = c .before .before .before .before .before in
+    let start = c .before .before .before .before in
     omega (arith, few start, start .pre .0 .masked .long)
 
 level-begun-requires : tie.Need-level-begun-requires Inv-loop μ-loop
@@ -119,7 +116,7 @@ level-begun-requires c κs = tt
 
 loop-holds : tie.Need-loop-holds Inv-loop μ-loop
 loop-holds c =
-    let start = c .before .before .before .before .before .before in
+    let start = c .before .before .before .before .before in
     (omega arith, walked-begin (start .pre .0) (start .pre .1) (start .pre .2) (c .level-begun .ensures) refl)
 
 mul-if1 : tie.Need-mul-if1 Inv-loop μ-loop
@@ -157,27 +154,32 @@ returns c =
 slack-after-requires : tie.Need-slack-after-requires Inv-loop μ-loop
 slack-after-requires c κs = tt
 
+entry-of-requires : tie.Need-entry-of-requires Inv-loop μ-loop
+entry-of-requires c κs =
+    let start = begun (c .before .before .before .before) in
+    (start .pre .0 .accepted, start .pre .1)
+
 sub-due-within : tie.Need-sub-due-within Inv-loop μ-loop
-sub-due-within c = omega (arith, come (c .before .before .before .before .before .before) .last .last .early)
+sub-due-within c = omega (arith, come (c .before .before .before .before .before .before .before) .last .last .early)
 
 due-within-requires : tie.Need-due-within-requires Inv-loop μ-loop
 due-within-requires c κs =
-    let join = c .before .before .before .before .before .before in
-    let entry = head join .before .before .before .entry-of .ensures in
+    let join = c .before .before .before .before .before .before .before in
+    let entry = c .before .before .entry-of .ensures in
     let last = come join .last in
     let close = near join in
     let ready = row-ready (sizes (begun join)) (last .figures) (omega (arith, last .last .early)) (last .marks) in
     (entry .1, rw (entry .0) ready)
 
 cast-t33 : tie.Need-cast-t33 Inv-loop μ-loop
-cast-t33 c = omega (arith, few (begun (c .before .before .before .before .before .before .before .before)))
+cast-t33 c = omega (arith, few (begun (c .before .before .before .before .before .before .before .before .before)))
 
 cast-t34 : tie.Need-cast-t34 Inv-loop μ-loop
-cast-t34 c = omega (arith, few (begun (c .before .before .before .before .before .before .before .before)))
+cast-t34 c = omega (arith, few (begun (c .before .before .before .before .before .before .before .before .before)))
 
 returns-2 : tie.Need-returns-2 Inv-loop μ-loop
 returns-2 c =
-    let roomy = c .before .before .before .before .before in
+    let roomy = c .before .before .before .before .before .before in
     let join = roomy .before .before .before in
     let start = begun join in
     length-late (start .pre .0) (start .pre .1) (come join) (near join) (left join) (roomy .before .if2 .left) _
@@ -188,7 +190,7 @@ loop-less c = omega arith
 
 loop-again : tie.Need-loop-again Inv-loop μ-loop
 loop-again c =
-    let roomy = c .before .before .before .before .before in
+    let roomy = c .before .before .before .before .before .before in
     let join = roomy .before .before .before in
     let start = begun join in
     let walked = head join .loop .inv .1 in (
@@ -230,7 +232,6 @@ start-judged-spec =
     (tie.spec
     Inv-loop
     μ-loop
-    entry-of-requires
     mul-level-begun
     add-level-begun
     mul-level-begun-2
@@ -246,6 +247,7 @@ start-judged-spec =
     add-if2
     returns
     slack-after-requires
+    entry-of-requires
     sub-due-within
     due-within-requires
     cast-t33
