@@ -32,6 +32,7 @@ use Rattle.text.specs.declared.Number.{Number}
 use Rattle.text.specs.Inside.{Put, told}
 use Rattle.text.proofs.Laws.{put-then}
 use Rattle.report.specs.Fit.{refusedLine, printedLength, printed}
+use Rattle.report.proofs.Fitting.{printed-unique}
 use Rattle.text.specs.Text.{readNumber}
 use Rattle.question.specs.declared.Kind.{Kind}
 use Rattle.question.specs.declared.Kind.the-variants.{Table, Critical}
@@ -39,12 +40,9 @@ use Rattle.question.specs.Ask.{kindOf, numberLines, pairLines, replyText
 use Rattle.question.proofs.Lines.{number-alone, no-numbers}
 
 -- the name of a question, as it is compared
-module _ (xs ys : List ℕ) (r : Bool) (says : (r ≡ true → xs ≡ ys) × (xs ≡ ys → r ≡ true)) where
-  pub named : r ≡ true → same xs ys ≡ true
-  named e = sym (same-test xs ys r says) ∙ e
-
-  pub not-named : r ≡ false → same xs ys ≡ false
-  not-named e = sym (same-test xs ys r says) ∙ e
+pub compared : (xs ys : List ℕ) (r : Bool) {t : Bool} → (r ≡ true → xs ≡ ys) × (xs ≡ ys → r ≡ true) → r ≡ t
+    → same xs ys ≡ t
+compared xs ys r says e = sym (same-test xs ys r says) ∙ e
 
 -- an answer has no refusal behind it
 answered : {n : ℕ} {figures : List ℕ} (m : ℕ) (others : List ℕ) (x : Option Refusal)
@@ -105,19 +103,20 @@ module _ (b : List ℕ) (i s f : ℕ) (r : Answer) (says : paper r ≡ criticalR
     found : (criticalRefusal b i s f (length lent) ≡ none) × (number ∷ [] ≡ length (sequenceOf b i s f) ∷ [])
     found = answered 0 _ _ (ap paper (sym e) ∙ says)
 
+    counted : number ≡ length (sequenceOf b i s f)
+    counted = let q = found .1 in cc
+
     pub critical-room : 2 * number ≤ 4096
     unfolding criticalRefusal
     critical-room =
-        let z : number ≡ length (sequenceOf b i s f) = (let q = found .1 in cc) in
-        rw z (enough _ 4096 (orElse-none (questionRefusal b i s f) _ (found .0) .1))
+        rw counted (enough _ 4096 (orElse-none (questionRefusal b i s f) _ (found .0) .1))
 
     pub critical-filled : (words : List ℕ) → words ≡ criticalWords b i s f lent
         → numberLines (number ∷ []) ++ pairLines (pairsIn number words) ≡ answerText Critical b i s f
     critical-filled words p =
         let σ = sequenceOf b i s f in
-        let z : number ≡ length σ = (let q = found .1 in cc) in
         let after : words ≡ inFront (wordsOf σ) lent = p ∙ ap (λ x. unlessRefused x (inFront (wordsOf σ) lent) lent) (found .0) in
-        let pairs : pairsIn number words ≡ σ = ap₂ pairsIn z after ∙ words-pairs σ (drop (length (wordsOf σ)) lent) in
+        let pairs : pairsIn number words ≡ σ = ap₂ pairsIn counted after ∙ words-pairs σ (drop (length (wordsOf σ)) lent) in
         ap (λ τ. numberLines (number ∷ []) ++ pairLines τ) pairs ∙ rw e at critical-text
 
 -- what a word says, as it was read
@@ -147,4 +146,4 @@ module _ (b question machine from to : List ℕ) where
       → after ≡ printed 65536 (askText b question machine from to) before
       → q ≡ printedLength 65536 (askText b question machine from to) before
       → other ≡ printed 65536 (askText b question machine from to) before → (r ≡ q) × (after ≡ other)
-  ask-unique before r q after other e p g s = (e ∙ sym g, p ∙ sym s)
+  ask-unique = printed-unique 65536 (askText b question machine from to)

@@ -15,7 +15,7 @@ use text::Number;
 use window::Answer;
 
 // The questions that can be asked.
-pub enum Kind {
+pub(crate) enum Kind {
     Request,
     Demand,
     Table,

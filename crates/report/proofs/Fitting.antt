@@ -141,8 +141,14 @@ pub unprinted : (room : ℕ) (text before : List ℕ) → length before < room
     → (0 ≡ printedLength room text before) × (before ≡ printed room text before)
 unprinted room text before lent = rw (lt-leb room (length before) lent) (refl, refl)
 
+-- a printed text has one length and one memory
+pub printed-unique : (room : ℕ) (text before : List ℕ) (r q : ℕ) (after other : List ℕ)
+    → r ≡ printedLength room text before → after ≡ printed room text before → q ≡ printedLength room text before
+    → other ≡ printed room text before → (r ≡ q) × (after ≡ other)
+printed-unique room text before r q after other e p g s = (e ∙ sym g, p ∙ sym s)
+
 -- no second result and no second memory satisfy the contract of `fit`
 pub fit-unique : (b before : List ℕ) (r q : ℕ) (after other : List ℕ) → r ≡ printedLength 512 (fitText b) before
     → after ≡ printed 512 (fitText b) before → q ≡ printedLength 512 (fitText b) before
     → other ≡ printed 512 (fitText b) before → (r ≡ q) × (after ≡ other)
-fit-unique b before r q after other e p g s = (e ∙ sym g, p ∙ sym s)
+fit-unique b = printed-unique 512 (fitText b)

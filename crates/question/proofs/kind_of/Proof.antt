@@ -1,4 +1,4 @@
-use Rattle.question.proofs.Asking.{named, not-named}
+use Rattle.question.proofs.Asking.{compared}
 use borrow.Author.Needs.{needs}
 use Rattle.question.proofs.kind_of.Statement.{statement}
 use Rattle.question.proofs.kind_of.Tie as tie
@@ -10,7 +10,7 @@ same-requires : tie.Need-same-requires
 same-requires c κs = search needs
 
 returns : tie.Need-returns
-returns c = rw (named _ _ _ (c .before .same .ensures) (c .if1 .taken))
+returns c = rw (compared _ _ _ (c .before .same .ensures) (c .if1 .taken))
 
 slice-aggregate-same-2 : tie.Need-slice-aggregate-same-2
 slice-aggregate-same-2 c = search needs
@@ -22,8 +22,8 @@ returns-2 : tie.Need-returns-2
 returns-2 c =
     let first = c .before .before .before in
     rw (
-      not-named _ _ _ (first .before .same .ensures) (first .if1 .left),
-      named _ _ _ (c .before .same2 .ensures) (c .if2 .taken),
+      compared _ _ _ (first .before .same .ensures) (first .if1 .left),
+      compared _ _ _ (c .before .same2 .ensures) (c .if2 .taken),
     )
 
 slice-aggregate-same-3 : tie.Need-slice-aggregate-same-3
@@ -37,9 +37,9 @@ returns-3 c =
     let second = c .before .before .before in
     let first = second .before .before .before in
     rw (
-      not-named _ _ _ (first .before .same .ensures) (first .if1 .left),
-      not-named _ _ _ (second .before .same2 .ensures) (second .if2 .left),
-      named _ _ _ (c .before .same3 .ensures) (c .if3 .taken),
+      compared _ _ _ (first .before .same .ensures) (first .if1 .left),
+      compared _ _ _ (second .before .same2 .ensures) (second .if2 .left),
+      compared _ _ _ (c .before .same3 .ensures) (c .if3 .taken),
     )
 
 slice-aggregate-same-4 : tie.Need-slice-aggregate-same-4
@@ -54,10 +54,10 @@ returns-4 c =
     let second = third .before .before .before in
     let first = second .before .before .before in
     rw (
-      not-named _ _ _ (first .before .same .ensures) (first .if1 .left),
-      not-named _ _ _ (second .before .same2 .ensures) (second .if2 .left),
-      not-named _ _ _ (third .before .same3 .ensures) (third .if3 .left),
-      named _ _ _ (c .before .same4 .ensures) (c .if4 .taken),
+      compared _ _ _ (first .before .same .ensures) (first .if1 .left),
+      compared _ _ _ (second .before .same2 .ensures) (second .if2 .left),
+      compared _ _ _ (third .before .same3 .ensures) (third .if3 .left),
+      compared _ _ _ (c .before .same4 .ensures) (c .if4 .taken),
     )
 
 slice-aggregate-same-5 : tie.Need-slice-aggregate-same-5
@@ -73,11 +73,11 @@ returns-5 c =
     let second = third .before .before .before in
     let first = second .before .before .before in
     rw (
-      not-named _ _ _ (first .before .same .ensures) (first .if1 .left),
-      not-named _ _ _ (second .before .same2 .ensures) (second .if2 .left),
-      not-named _ _ _ (third .before .same3 .ensures) (third .if3 .left),
-      not-named _ _ _ (fourth .before .same4 .ensures) (fourth .if4 .left),
-      named _ _ _ (c .before .same5 .ensures) (c .if5 .taken),
+      compared _ _ _ (first .before .same .ensures) (first .if1 .left),
+      compared _ _ _ (second .before .same2 .ensures) (second .if2 .left),
+      compared _ _ _ (third .before .same3 .ensures) (third .if3 .left),
+      compared _ _ _ (fourth .before .same4 .ensures) (fourth .if4 .left),
+      compared _ _ _ (c .before .same5 .ensures) (c .if5 .taken),
     )
 
 returns-6 : tie.Need-returns-6
@@ -87,11 +87,11 @@ returns-6 c =
     let second = third .before .before .before in
     let first = second .before .before .before in
     rw (
-      not-named _ _ _ (first .before .same .ensures) (first .if1 .left),
-      not-named _ _ _ (second .before .same2 .ensures) (second .if2 .left),
-      not-named _ _ _ (third .before .same3 .ensures) (third .if3 .left),
-      not-named _ _ _ (fourth .before .same4 .ensures) (fourth .if4 .left),
-      not-named _ _ _ (c .before .same5 .ensures) (c .if5 .left),
+      compared _ _ _ (first .before .same .ensures) (first .if1 .left),
+      compared _ _ _ (second .before .same2 .ensures) (second .if2 .left),
+      compared _ _ _ (third .before .same3 .ensures) (third .if3 .left),
+      compared _ _ _ (fourth .before .same4 .ensures) (fourth .if4 .left),
+      compared _ _ _ (c .before .same5 .ensures) (c .if5 .left),
     )
 
 pub kind-of-spec : {M : Type 1} → statement M
