@@ -26,9 +26,13 @@ unfoldable pub spaced : List ℕ → List ℕ
 spaced [] = []
 spaced (n ∷ ns) = 32 ∷ decimal n ++ spaced ns
 
+-- numbers, each after a space, and the end of their line
+abbrev pub rest : List ℕ → List ℕ
+rest ns = spaced ns ++ (10 ∷ [])
+
 -- a word and numbers, as a line of their own
 abbrev pub line : List ℕ → List ℕ → List ℕ
-line word ns = word ++ (spaced ns ++ (10 ∷ []))
+line word ns = word ++ rest ns
 
 -- numbers, at least one, as a line of their own
 abbrev pub row : ℕ → List ℕ → List ℕ

@@ -4,7 +4,7 @@ ghost use mathlib.Core.Path.{_≡_};
 ghost use mathlib.Core.List.{[], _∷_};
 ghost use Prim.Native.Nat.{_+_, _*_, _≤_, _<_};
 ghost use lib.ListN.{length};
-ghost use Rattle.text.specs.Text.{decimal, spaced, line, row, readNumber};
+ghost use Rattle.text.specs.Text.{decimal, spaced, rest, line, row, readNumber};
 ghost use Rattle.text.specs.Inside.{Put, told};
 
 // What a word says that should be a number.
@@ -89,15 +89,24 @@ pub fn put_spaced(out: &mut [u8], at: usize, numbers: &[u32]) -> usize
     next
 }
 
+// Numbers, each after a space, and the end of their line.
+fn put_rest(out: &mut [u8], at: usize, numbers: &[u32]) -> usize
+    requires { ⌜ at + (11 * length (now numbers) + 1) ≤ length (now out) ⌝ }
+    ensures { λ r. ⌜ Put (now (out .entry)) at (rest (now (numbers .entry))) r (now (out .exit))
+        × (r ≤ at + (11 * length (now (numbers .entry)) + 1)) ⌝ }
+{
+    let last = put_spaced(out, at, numbers);
+    put_byte(out, last, 10)
+}
+
 // A word and numbers, as a line of their own.
 pub fn put_line(out: &mut [u8], at: usize, word: &[u8], numbers: &[u32]) -> usize
     requires { ⌜ at + (length (now word) + (11 * length (now numbers) + 1)) ≤ length (now out) ⌝ }
     ensures { λ r. ⌜ Put (now (out .entry)) at (line (now (word .entry)) (now (numbers .entry))) r (now (out .exit))
         × (r ≤ at + (length (now (word .entry)) + (11 * length (now (numbers .entry)) + 1))) ⌝ }
 {
-    let first = put_bytes(out, at, word);
-    let last = put_spaced(out, first, numbers);
-    put_byte(out, last, 10)
+    let next = put_bytes(out, at, word);
+    put_rest(out, next, numbers)
 }
 
 // Numbers, at least one, as a line of their own.
@@ -107,6 +116,5 @@ pub fn put_row(out: &mut [u8], at: usize, first: u32, others: &[u32]) -> usize
         × (r ≤ at + (11 * length (now (others .entry)) + 11)) ⌝ }
 {
     let next = put_decimal(out, at, first);
-    let end = put_spaced(out, next, others);
-    put_byte(out, end, 10)
+    put_rest(out, next, others)
 }
