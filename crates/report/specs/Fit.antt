@@ -10,6 +10,7 @@ use Rattle.model.specs.Reckon.{request}
 use Rattle.model.specs.Verdict.{Judgement, Fits, Late, Open, verdict}
 use Rattle.sheet.specs.declared.Refusal.{Refusal}
 use Rattle.sheet.specs.Format.{decode}
+use Rattle.sheet.specs.Reply.{refusal}
 use Rattle.sheet.specs.Check.{refusalOf}
 use Rattle.text.specs.Text.{ascii, line}
 
@@ -46,9 +47,19 @@ fitOf none ms = acceptedText ms
 abbrev pub fitText : List ℕ → List ℕ
 fitText b = fitOf (refusalOf b) (decode b)
 
--- a text goes to the start of the lent bytes, where there are `room` of them at least; how many it takes, and what they then hold
+-- a text goes to the start of the lent bytes, where there are `room` of them at least: how many it takes
 abbrev pub printedLength : ℕ → List ℕ → List ℕ → ℕ
 printedLength room text out = cond (leb room (length out)) (length text) 0
 
+-- what they then hold
 abbrev pub printed : ℕ → List ℕ → List ℕ → List ℕ
 printed room text out = cond (leb room (length out)) (text ++ drop (length text) out) out
+
+-- a refusal as it is handed back: where there is none, number 0 at place 0, 0
+abbrev pub handed : Option Refusal → Refusal
+handed none = refusal 0 0 0
+handed (some r) = r
+
+-- the refusal that the text prints
+abbrev pub printedRefusal : ℕ → Option Refusal → List ℕ → Refusal
+printedRefusal room x out = cond (leb room (length out)) (handed x) (handed none)

@@ -1,2 +1,3 @@
 pub mod Fit
 pub mod Inside
+pub mod Words

@@ -1,6 +1,6 @@
 // The text of `fit`.
 ghost use mathlib.Core.Path.{_≡_};
-ghost use mathlib.Core.Option.{none};
+ghost use mathlib.Core.Option.{none, some};
 ghost use Prim.Native.Nat.{_+_, _*_, _≤_, _<_};
 ghost use lib.ListN.{length};
 ghost use Rattle.model.specs.Machine.{machineOf, hyperperiod};
@@ -9,21 +9,38 @@ ghost use Rattle.model.specs.Verdict.{verdict};
 ghost use Rattle.sheet.specs.Format.{machineCount, decode};
 ghost use Rattle.sheet.specs.Check.{refusalOf};
 ghost use Rattle.text.specs.Inside.{Put};
-ghost use Rattle.report.specs.Fit.{refusedLine, machineLine, machineLines, verdictLine, acceptedText, fitText, printedLength, printed};
-ghost use Rattle.report.specs.Inside.{Admitted};
+ghost use Rattle.report.specs.Fit.{refusedLine, machineLine, machineLines, verdictLine, acceptedText, fitText};
+ghost use Rattle.report.specs.Fit.{handed, printedLength, printedRefusal, printed};
+ghost use Rattle.report.specs.Inside.{Admitted, Prints};
+use crate::Printed;
 use sheet::Checked;
 use sheet::Refusal;
 use sheet::read;
 use verdict::Verdict;
 use window::Answer;
 
-// REFUSED with number and place.
-pub fn put_refused(out: &mut [u8], at: usize, refusal: Refusal) -> usize
-    requires { ⌜ at + 41 ≤ length (now out) ⌝ }
-    ensures { λ r. ⌜ Put (now (out .entry)) at (refusedLine refusal) r (now (out .exit)) ⌝ }
+// A text that prints no refusal.
+pub fn answered(length: usize) -> Printed
+    ensures { λ r. ⌜ (r .length ≡ length) × (r .refusal ≡ handed none) ⌝ }
+{
+    Printed {
+        length,
+        refusal: Refusal {
+            number: 0,
+            first: 0,
+            second: 0,
+        },
+    }
+}
+
+// REFUSED with number and place, at the start of the lent bytes.
+pub fn print_refused(out: &mut [u8], refusal: Refusal) -> Printed
+    requires { ⌜ 41 ≤ length (now out) ⌝ }
+    ensures { λ r. ⌜ Prints (now (out .entry)) (refusedLine refusal) (some refusal) r (now (out .exit)) ⌝ }
 {
     let numbers = [refusal.number, refusal.first, refusal.second];
-    text::put_line(out, at, b"REFUSED", &numbers)
+    let length = text::put_line(out, 0, b"REFUSED", &numbers);
+    Printed { length, refusal }
 }
 
 // The request bound of [0, H) of a machine.
@@ -100,21 +117,22 @@ fn put_accepted(out: &mut [u8], sheet: &[u8], machines: usize, h: u32) -> usize
     put_verdict(out, last, sheet)
 }
 
-// Makes the text of `fit` at the start of the lent bytes and answers its length. Bytes past the text
-// stay as they were; with fewer than 512 bytes lent nothing is written, and the answer is 0.
-pub fn fit(sheet: &[u8], out: &mut [u8]) -> usize
-    ensures { λ r. ⌜ r ≡ printedLength 512 (fitText (now (sheet .entry))) (now (out .entry)) ⌝ }
+// Makes the text of `fit` at the start of the lent bytes and answers its length, and the refusal that it prints. Bytes past
+// the text stay as they were; with fewer than 512 bytes lent nothing is written, and the length is 0.
+pub fn fit(sheet: &[u8], out: &mut [u8]) -> Printed
+    ensures { λ r. ⌜ r .length ≡ printedLength 512 (fitText (now (sheet .entry))) (now (out .entry)) ⌝ }
+    ensures { λ r. ⌜ r .refusal ≡ printedRefusal 512 (refusalOf (now (sheet .entry))) (now (out .entry)) ⌝ }
     ensures { λ _. ⌜ now (out .exit) ≡ printed 512 (fitText (now (sheet .entry))) (now (out .entry)) ⌝ }
 {
     if out.len() < 512 {
-        return 0;
+        return answered(0);
     }
     let checked = sheet::check(sheet);
     match checked {
-        Checked::Refused(refusal) => put_refused(out, 0, refusal),
+        Checked::Refused(refusal) => print_refused(out, refusal),
         Checked::Accepted {
             machines,
             hyperperiod,
-        } => put_accepted(out, sheet, machines as usize, hyperperiod),
+        } => answered(put_accepted(out, sheet, machines as usize, hyperperiod)),
     }
 }

@@ -1,5 +1,16 @@
-// The texts of the programs, made in lent bytes. Definitions: specs/Fit.antt.
+// The texts of the programs, made in lent bytes. Definitions: specs/Fit.antt and specs/Words.antt.
 mod fits;
+mod words;
 
+pub use fits::answered;
 pub use fits::fit;
-pub use fits::put_refused;
+pub use fits::print_refused;
+use sheet::Refusal;
+pub use words::explain;
+
+// What was printed into lent bytes: the length of the text, and the refusal that it prints, number 0 at place 0, 0 where it
+// prints none.
+pub struct Printed {
+    pub length: usize,
+    pub refusal: Refusal,
+}

@@ -7,7 +7,7 @@
 //! - `critical`, `plain`: the critical sequence and the plain reckoner.
 //! - `bounds`: the five questions, with refusals 10, 11, 14 and 12; `question`: one as a value.
 //! - `verdict`: the verdict in its own words, then three walks that give the same.
-//! - `text`: what the programs print.
+//! - `text`: what the programs print, and their status; `reason`: a refusal in words.
 //! - `call`: any call of the library and its reply; `stream`: both as little-endian words.
 //! - `random`, `generate`: sheets and questions to compare programs with.
 //! - `compare`, `replies`: another program beside this one, by its text or through a stream.
@@ -26,6 +26,7 @@ pub mod plain;
 pub mod process;
 pub mod question;
 pub mod random;
+pub mod reason;
 pub mod replies;
 pub mod run;
 pub mod sheet;

@@ -1,14 +1,16 @@
 //! The program: `fit` and `ask` read a sheet on standard input, the others make their own.
 
+use second::question::Question;
+use second::text::Printed;
 use second::{benchmark, compare, generate, replies, simulate, stream, text};
-use std::io::{self, BufReader, BufWriter, Read};
+use std::io::{self, BufReader, BufWriter, Read, Write};
 use std::process::{Command, ExitCode};
 
 const USAGE: &str = "usage: second fit
        second ask QUESTION MACHINE START END
        second answer
-       second compare fit|ask PROGRAM SEED COUNT
-       second replies PROGRAM SEED COUNT
+       second compare fit|ask RUN SEED COUNT
+       second replies RUN SEED COUNT
        second sheets SEED COUNT
        second simulate SEED COUNT
        second benchmark PROGRAM SHEET...";
@@ -17,7 +19,15 @@ fn main() -> ExitCode {
     // A word that is no text at all becomes one that is no number and no name.
     let words = std::env::args_os().skip(1);
     let words: Vec<String> = words.map(|w| w.to_string_lossy().into()).collect();
-    match answer(&words) {
+    match words.first().map(String::as_str) {
+        Some("fit") => leave(fit(&words[1..])),
+        Some("ask") => leave(ask(&words[1..])),
+        _ => leave_answer(answer(&words)),
+    }
+}
+
+fn leave_answer(answer: Option<Result<String, String>>) -> ExitCode {
+    match answer {
         Some(Ok(text)) => {
             print!("{text}");
             ExitCode::SUCCESS
@@ -33,11 +43,39 @@ fn main() -> ExitCode {
     }
 }
 
+fn leave(printed: Printed) -> ExitCode {
+    eprint!("{}", printed.error);
+    let mut output = io::stdout();
+    let written = output.write_all(printed.output.as_bytes());
+    match written.and_then(|()| output.flush()) {
+        Ok(()) => ExitCode::from(printed.status),
+        Err(_) => ExitCode::from(Printed::ANYTHING_ELSE),
+    }
+}
+
+fn fit(words: &[String]) -> Printed {
+    if !words.is_empty() {
+        return Printed::nothing(text::FIT_USAGE);
+    }
+    match sheet() {
+        Ok(bytes) => text::fit(&bytes),
+        Err(_) => Printed::nothing("fit: cannot read standard input\n"),
+    }
+}
+
+fn ask(words: &[String]) -> Printed {
+    let Some(question) = Question::read(words) else {
+        return Printed::nothing(text::ASK_USAGE);
+    };
+    match sheet() {
+        Ok(bytes) => text::ask(&bytes, &question),
+        Err(_) => Printed::nothing("ask: cannot read standard input\n"),
+    }
+}
+
 fn answer(words: &[String]) -> Option<Result<String, String>> {
     let names: Vec<&str> = words.iter().map(String::as_str).collect();
     let answer = match names[..] {
-        ["fit"] => Ok(text::fit(&sheet())),
-        ["ask", ..] => Ok(text::ask(&sheet(), &words[1..])),
         ["answer"] => answer_stream(),
         ["benchmark", program, ref files @ ..] => benchmark::table(program, files),
         [ref name @ .., seed, count] => seeded(name, seed.parse().ok()?, count.parse().ok()?)?,
@@ -49,9 +87,9 @@ fn answer(words: &[String]) -> Option<Result<String, String>> {
 /// What is made from a seed, so many times.
 fn seeded(name: &[&str], seed: u64, count: u32) -> Option<Result<String, String>> {
     let answer = match name {
-        ["compare", "fit", program] => compare::fit(program, seed, count),
-        ["compare", "ask", program] => compare::ask(program, seed, count),
-        ["replies", program] => replies::compare(|| Command::new(program), seed, count),
+        ["compare", "fit", run] => compare::fit(run, seed, count),
+        ["compare", "ask", run] => compare::ask(run, seed, count),
+        ["replies", run] => replies::compare(|| replies_by(run), seed, count),
         ["sheets"] => Ok(generate::statistics(seed, count)),
         ["simulate"] => simulate::report(seed, count),
         _ => return None,
@@ -59,13 +97,18 @@ fn seeded(name: &[&str], seed: u64, count: u32) -> Option<Result<String, String>
     Some(answer)
 }
 
+/// The program that answers a stream of questions.
+fn replies_by(run: &str) -> Command {
+    let mut program = Command::new(run);
+    program.arg("replies");
+    program
+}
+
 /// The sheet on standard input, as much of it as is ever looked at.
-fn sheet() -> Vec<u8> {
+fn sheet() -> io::Result<Vec<u8>> {
     let mut bytes = Vec::new();
     let mut input = io::stdin().lock().take(text::MOST_READ as u64);
-    // What could be read before a failing input is the sheet.
-    let _ = input.read_to_end(&mut bytes);
-    bytes
+    input.read_to_end(&mut bytes).map(|_| bytes)
 }
 
 /// Replies to the calls on standard input, on standard output.

@@ -1,13 +1,26 @@
-//! What `fit` and `ask` print.
+//! What `fit` and `ask` print, and their status.
 
 mod common;
 
 use common::{longest, pair_with, PAIR};
-use second::text::{ask, fit, USAGE};
+use second::question::Question;
+use second::text::{self, Printed};
 
-fn answer(question: &str) -> String {
-    let words: Vec<String> = question.split(' ').map(String::from).collect();
-    ask(&PAIR, &words)
+fn fit(bytes: &[u8]) -> String {
+    text::fit(bytes).output
+}
+
+fn question(words: &str) -> Option<Question> {
+    let words: Vec<String> = words.split(' ').map(String::from).collect();
+    Question::read(&words)
+}
+
+fn answer_about(bytes: &[u8], words: &str) -> Printed {
+    text::ask(bytes, &question(words).expect(words))
+}
+
+fn answer(words: &str) -> String {
+    answer_about(&PAIR, words).output
 }
 
 #[test]
@@ -55,14 +68,42 @@ fn refusals() {
     assert_eq!(answer("demand 1 5 4"), "REFUSED 11 0 0\n");
     assert_eq!(answer("table 1 4294967295 1"), "REFUSED 11 0 0\n");
     assert_eq!(answer("plain 0 0 241"), "REFUSED 14 0 0\n");
-    let words = ["request", "9", "5", "4"].map(String::from);
-    assert_eq!(ask(&pair_with(&[(14, 21)]), &words), "REFUSED 8 1 0\n");
+    let refused = answer_about(&pair_with(&[(14, 21)]), "request 9 5 4");
+    assert_eq!(refused.output, "REFUSED 8 1 0\n");
+}
+
+#[test]
+fn words_for_refusals() {
+    let why = |printed: Printed| (printed.status, printed.error);
+    let refused = |words: &str| (2, format!("{words}\n"));
+    let fit = |bytes: &[u8]| why(text::fit(bytes));
+    let one = "fit: refused under 1: the length is below 28 or above 2,124";
+    assert_eq!(fit(&[]), refused(one));
+    let five =
+        "fit: refused under 5: an entry has its states, initial state, actions or zero byte \
+                out of range, at machine 1";
+    assert_eq!(fit(&pair_with(&[(51, 1)])), refused(five));
+    let eight = "fit: refused under 8: a deadline is above the divisor of the machine's periods, \
+                 at machine 1, action 0";
+    assert_eq!(fit(&pair_with(&[(14, 21)])), refused(eight));
+    let fourteen = "ask: refused under 14: the window holds more than 6 instants, for the plain \
+                    reckoner";
+    assert_eq!(why(answer_about(&PAIR, "plain 0 0 241")), refused(fourteen));
+}
+
+#[test]
+fn statuses() {
+    assert_eq!(text::fit(&PAIR).status, 0);
+    assert_eq!(text::fit(&pair_with(&[(4, 15)])).status, 1);
+    assert_eq!(text::fit(&[]).status, 2);
+    assert_eq!(answer_about(&PAIR, "critical 1 1 40").status, 0);
+    let accepted = text::fit(&PAIR);
+    assert_eq!(accepted.error, "");
 }
 
 #[test]
 fn misuse() {
-    assert!(USAGE.starts_with("usage:"));
-    for question in [
+    for words in [
         "",
         "request",
         "request 1 0",
@@ -77,10 +118,10 @@ fn misuse() {
         "request 1 0 99999999999999999999",
         "request 1 0 0x10",
     ] {
-        assert_eq!(answer(question), USAGE, "{question}");
+        assert_eq!(question(words), None, "{words}");
     }
-    assert_eq!(answer(&format!("request 1 80 {:0>65}", 101)), USAGE);
-    assert_eq!(ask(&PAIR, &[]), USAGE);
-    // Looked at before the sheet.
-    assert_eq!(ask(&[], &["table".to_string()]), USAGE);
+    assert_eq!(question(&format!("request 1 80 {:0>65}", 101)), None);
+    assert_eq!(Question::read(&[]), None);
+    let usage = Printed::nothing(text::ASK_USAGE);
+    assert_eq!((usage.output, usage.status), (String::new(), 3));
 }

@@ -1,5 +1,7 @@
+use mathlib.Core.Path.{refl}
+use Rattle.sheet.specs.Check.{refusalOf}
 use Rattle.sheet.proofs.Answer.{refused-so, accepted-so}
-use Rattle.report.proofs.Fitting.{unprinted, printed-so, fit-refused, fit-accepted}
+use Rattle.report.proofs.Fitting.{nothing-prints, answer-prints, prints-so, refused-prints, accepted-prints}
 use Rattle.report.specs.Fit.{fitText}
 use denote.Ref.{now}
 use native.Mathlib.Omega.{arith}
@@ -7,10 +9,14 @@ use borrow.Author.Needs.{needs}
 use Rattle.report.proofs.fits.fit.Statement.{statement}
 use Rattle.report.proofs.fits.fit.Tie as tie
 
+answered-requires : tie.Need-answered-requires
+answered-requires c κs = search needs
+
 returns : tie.Need-returns
 returns c =
-    let args = c .before .before .before .args in
-    unprinted 512 (fitText (now (args .sheet))) (now (args .out)) (c .if1 .taken)
+    let args = c .before .before .before .before .args in
+    nothing-prints (c .answered .ensures) 512 (fitText (now (args .sheet))) (now (args .out)) (refusalOf (now (args .sheet)))
+    refl (c .before .if1 .taken)
 
 check-requires : tie.Need-check-requires
 check-requires c κs = search needs
@@ -18,8 +24,8 @@ check-requires c κs = search needs
 enum-known-checked : tie.Need-enum-known-checked
 enum-known-checked c = search needs
 
-put-refused-requires : tie.Need-put-refused-requires
-put-refused-requires c κs = search needs
+print-refused-requires : tie.Need-print-refused-requires
+print-refused-requires c κs = search needs
 
 enum-known-checked-2 : tie.Need-enum-known-checked-2
 enum-known-checked-2 c = search needs
@@ -34,6 +40,9 @@ put-accepted-requires c κs =
     let (kept, count, period) = accepted-so _ (check .check .ensures) (known .checked2 .given .1) in
     (record { admitted = kept; period = period }, count, omega (arith, check .before .if1 .left))
 
+answered-requires-2 : tie.Need-answered-requires-2
+answered-requires-2 c κs = search needs
+
 same-length : tie.Need-same-length
 same-length c = search needs
 
@@ -42,33 +51,34 @@ returns-2 c =
     let put = c .before .before in
     let known = put .before .before .before in
     let check = known .before .before in
-    let args = check .before .before .before .before .args in
     let kept = refused-so _ (check .check .ensures) (known .checked .given .1) in
-    printed-so 512 (omega (arith, check .before .if1 .left)) (rw (fit-refused (now (args .sheet)) kept) at (put .put-refused .ensures))
+    prints-so 512 (omega (arith, check .before .if1 .left)) (refused-prints _ kept (put .print-refused .ensures))
 
 same-length-2 : tie.Need-same-length-2
 same-length-2 c = search needs
 
 returns-3 : tie.Need-returns-3
 returns-3 c =
-    let put = c .before .before in
+    let put = c .before .before .before in
     let known = put .before .before .before in
     let check = known .before .before in
-    let args = check .before .before .before .before .args in
     let (kept, _, _) = accepted-so _ (check .check .ensures) (known .checked2 .given .1) in
-    printed-so 512 (omega (arith, check .before .if1 .left)) (rw (fit-accepted (now (args .sheet)) kept) at (put .put-accepted .ensures))
+    prints-so 512 (omega (arith, check .before .if1 .left))
+    (accepted-prints _ kept (answer-prints (c .answered2 .ensures) (put .put-accepted .ensures)))
 
 pub fit-spec : {M : Type 1} → statement M
 fit-spec =
     tie.close
     (tie.spec
+    answered-requires
     returns
     check-requires
     enum-known-checked
-    put-refused-requires
+    print-refused-requires
     enum-known-checked-2
     cast-put-accepted
     put-accepted-requires
+    answered-requires-2
     same-length
     returns-2
     same-length-2

@@ -1,0 +1,69 @@
+-- The line of a refusal, from its pieces.
+use Prim.Native.Nat.{ℕ, _+_, _≤_, _<_}
+use mathlib.Core.Path.{_≡_}
+use mathlib.Core.Bool.{cond}
+use mathlib.Core.List.{List, [], _∷_, _++_, append-nil}
+use native.Mathlib.Nat.{add-zero}
+use native.Mathlib.Omega.{arith}
+use borrow.Author.Tests.{ne-eqb, lt-ltb, le-ltb}
+use lib.Dec.{eqb, ltb}
+use lib.ListN.{length}
+use Rattle.sheet.specs.declared.Refusal.{Refusal}
+use Rattle.text.specs.Text.{ascii, spaced}
+use Rattle.text.specs.Inside.{Put}
+use Rattle.text.proofs.Laws.{put-begin}
+use Rattle.report.specs.Words.{sheetReason, questionReason, place}
+
+-- where nothing is to be said, nothing is put
+pub put-nothing : (before : List ℕ) (at : ℕ) → at ≤ length before → Put before at [] at before
+put-nothing before at l = rw add-zero at (put-begin before at l)
+
+-- n is none of the numbers that a `match` has named
+abbrev Other : ℕ → Type 0 → ℕ → Type 0
+Other n others k = others × (n ≡ k → ⊥)
+
+-- a number that no rule has gives no reason
+pub no-sheet-reason : (n : ℕ)
+    → Other n (Other n (Other n (Other n (Other n (Other n (Other n (Other n (Other n (Unit {0}) 1) 2) 3) 4) 5) 6) 7) 8) 9
+    → sheetReason n ≡ []
+unfolding sheetReason
+no-sheet-reason n h =
+    let (((((((((_, a), b), c), d), e), f), g), i), j) = h in
+    rw (
+      ne-eqb n 1 a,
+      ne-eqb n 2 b,
+      ne-eqb n 3 c,
+      ne-eqb n 4 d,
+      ne-eqb n 5 e,
+      ne-eqb n 6 f,
+      ne-eqb n 7 g,
+      ne-eqb n 8 i,
+      ne-eqb n 9 j,
+    )
+
+pub no-question-reason : (n : ℕ) → Other n (Other n (Other n (Other n (Unit {0}) 10) 11) 12) 14 → questionReason n ≡ []
+unfolding questionReason
+no-question-reason n h =
+    let ((((_, a), b), c), d) = h in rw (ne-eqb n 10 a, ne-eqb n 11 b, ne-eqb n 12 c, ne-eqb n 14 d)
+
+-- the place, by the number
+module _ (r : Refusal) where
+  pub no-place-below : r .number < 5 → place r ≡ []
+  unfolding place
+  no-place-below l = rw (lt-ltb (r .number) 5 l)
+
+  pub no-place-above : 8 < r .number → place r ≡ []
+  unfolding place
+  no-place-above l = rw (le-ltb (r .number) 5 (omega arith), lt-ltb 8 (r .number) l)
+
+  pub place-machine : 5 ≤ r .number → r .number < 7 → place r ≡ ascii ", at machine" ++ spaced (r .first ∷ [])
+  unfolding place
+  place-machine l h =
+      rw (le-ltb (r .number) 5 l, le-ltb 8 (r .number) (omega arith), lt-ltb (r .number) 7 h)
+      (append-nil (ascii ", at machine" ++ spaced (r .first ∷ [])))
+
+  pub place-action : 7 ≤ r .number → r .number ≤ 8
+      → place r ≡ ascii ", at machine" ++ spaced (r .first ∷ []) ++ (ascii ", action" ++ spaced (r .second ∷ []))
+  unfolding place
+  place-action l h =
+      rw (le-ltb (r .number) 5 (omega arith), le-ltb 8 (r .number) h, le-ltb (r .number) 7 l)
