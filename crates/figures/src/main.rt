@@ -210,7 +210,8 @@ fn fit(what: &[u8], draft: Draft) {
     let whole: &[u8] = &bytes;
     if used <= whole.len() {
         let mut out = [7u8; 512];
-        let length = report::fit(&whole[..used], &mut out);
+        let printed = report::fit(&whole[..used], &mut out);
+        let length = printed.length;
         let made: &[u8] = &out;
         if length <= made.len() {
             text(&made[..length]);
@@ -239,7 +240,8 @@ fn short_fit() {
     let whole: &[u8] = &bytes;
     if used <= whole.len() {
         let mut out = [7u8; 511];
-        let length = report::fit(&whole[..used], &mut out);
+        let printed = report::fit(&whole[..used], &mut out);
+        let length = printed.length;
         io::print_decimal(STDOUT_FILENO, length as u64);
         text(b", bytes kept: ");
         io::print_decimal(STDOUT_FILENO, kept(&out) as u64);

@@ -8,7 +8,7 @@ use mathlib.Core.Option.{Option, none, some}
 use native.Mathlib.Omega.{arith}
 use lib.ListN.{length, take, drop, replicate, length-replicate}
 use lib.Seq.{take-at}
-use borrow.Author.Tests.{leb-true}
+use borrow.Author.Tests.{leb-true, eq-eqb, ne-eqb}
 use Rattle.model.specs.Machine.{machineOf}
 use Rattle.sheet.specs.declared.Refusal.{Refusal}
 use Rattle.sheet.specs.Format.{decode}
@@ -31,12 +31,20 @@ use Rattle.text.specs.Text.{row}
 use Rattle.text.specs.declared.Number.{Number}
 use Rattle.text.specs.Inside.{Put, told}
 use Rattle.text.proofs.Laws.{put-then}
-use Rattle.report.specs.Fit.{refusedLine, printedLength, printed}
-use Rattle.report.proofs.Fitting.{printed-unique}
 use Rattle.text.specs.Text.{readNumber}
+use Rattle.report.specs.declared.Printed.{Printed}
+use Rattle.report.specs.Fit.{refusedLine}
+use Rattle.report.specs.Inside.{Prints}
+use Rattle.report.proofs.Fitting.{Promised, promised-unique}
 use Rattle.question.specs.declared.Kind.{Kind}
 use Rattle.question.specs.declared.Kind.the-variants.{Table, Critical}
-use Rattle.question.specs.Ask.{kindOf, numberLines, pairLines, replyText, lent, usage, answerText, numbersText, askText}
+use Rattle.question.specs.declared.Question.{Question}
+use Rattle.question.specs.declared.Asked.{Asked}
+use Rattle.question.specs.declared.Asked.the-variants.{This, Nothing}
+use Rattle.question.specs.declared.Name.{Name}
+use Rattle.question.specs.Ask.{kindOf, asksOf, asks, numberLines, pairLines, replyText, refusalIn, lent}
+use Rattle.question.specs.Ask.{answerReply, written, answerText, answerRefusal, askText, askRefusal}
+use Rattle.question.specs.Inside.{named}
 use Rattle.question.proofs.Lines.{number-alone, no-numbers}
 
 -- the name of a question, as it is compared
@@ -54,18 +62,29 @@ answered m others (some r) e = absurd (let z : _≡_ {A = ℕ} 0 1 = cc in omega
 enough : (needed words : ℕ) → rule12 needed words ≡ none → needed ≤ words
 enough needed words e = leb-true needed words (unless-none _ _ e)
 
+-- a reply's text, by its case
+module _ (more : List ℕ) (reply : Reply) {before after : List ℕ} {q : Printed} where
+  pub refused-text : {x : Refusal} → reply ≡ refused x → Prints before (refusedLine x) (some x) q after
+      → Prints before (replyText reply more) (refusalIn reply) q after
+  refused-text e p = rw e p
+
+  pub answered-text : {n : ℕ} {figures : List ℕ} → reply ≡ answer n figures → Prints before (numberLines figures ++ more) none q after
+      → Prints before (replyText reply more) (refusalIn reply) q after
+  answered-text e p = rw e p
+
 -- a figure, as the text of its answer
 pub figure-put : {b c : List ℕ} {at r : ℕ} (v : ℕ) → Put b at (row v []) r c → Put b at (replyText (paper (Value v)) []) r c
 figure-put v p = rw (append-nil (numberLines (v ∷ [])), number-alone v) p
 
 -- the table's text, by the answer
 module _ (b : List ℕ) (i s n : ℕ) (r : Tabled) (says : tabledPaper r ≡ tableReply b i s n lent) where
-  table-text : replyText (tabledPaper r) (numberLines (requestTable (machineOf (decode b) i) s n)) ≡ answerText Table b i s n
-  unfolding answerText
-  table-text = ap (λ x. replyText x (numberLines (requestTable (machineOf (decode b) i) s n))) says
+  table-reply : {x : Tabled} → r ≡ x → answerReply Table b i s n ≡ tabledPaper x
+  unfolding answerReply
+  table-reply e = sym says ∙ ap tabledPaper e
 
-  pub table-refused : {x : Refusal} → r ≡ refusedWith x → refusedLine x ≡ answerText Table b i s n
-  table-refused e = rw e at table-text
+  pub table-refused : {x : Refusal} {before after : List ℕ} {q : Printed} → r ≡ refusedWith x → Prints before (refusedLine x) (some x) q after
+      → Prints before (answerText Table b i s n) (answerRefusal Table b i s n) q after
+  table-refused e = refused-text (written Table b i s n) (answerReply Table b i s n) (table-reply e)
 
   module _ (e : r ≡ Filled) where
     kept : tableRefusal b i s n (length lent) ≡ none
@@ -85,19 +104,24 @@ module _ (b : List ℕ) (i s n : ℕ) (r : Tabled) (says : tabledPaper r ≡ tab
       pub table-taken : n + 1 ≡ length (take (n + 1) words)
       table-taken = sym (ap length front ∙ listed-length _ (n + 1))
 
-      pub table-filled : numberLines (take (n + 1) words) ≡ answerText Table b i s n
-      table-filled =
-          let lines = numberLines (requestTable (machineOf (decode b) i) s n) in
-          ap numberLines front ∙ ap (λ l. l ++ lines) (sym no-numbers) ∙ rw e at table-text
+      lines : numberLines (take (n + 1) words) ≡ numberLines [] ++ written Table b i s n
+      unfolding written
+      lines = ap numberLines front ∙ ap (λ l. l ++ numberLines (requestTable (machineOf (decode b) i) s n)) (sym no-numbers)
+
+      pub table-filled : {before after : List ℕ} {q : Printed} → Prints before (numberLines (take (n + 1) words)) none q after
+          → Prints before (answerText Table b i s n) (answerRefusal Table b i s n) q after
+      table-filled t =
+          answered-text (written Table b i s n) (answerReply Table b i s n) (table-reply e) (rw lines at t)
 
 -- the critical sequence's text, by the answer
 module _ (b : List ℕ) (i s f : ℕ) (r : Answer) (says : paper r ≡ criticalReply b i s f lent) where
-  critical-text : replyText (paper r) (pairLines (sequenceOf b i s f)) ≡ answerText Critical b i s f
-  unfolding answerText
-  critical-text = ap (λ x. replyText x (pairLines (sequenceOf b i s f))) says
+  critical-reply : {x : Answer} → r ≡ x → answerReply Critical b i s f ≡ paper x
+  unfolding answerReply
+  critical-reply e = sym says ∙ ap paper e
 
-  pub critical-refused : {x : Refusal} → r ≡ Refused x → refusedLine x ≡ answerText Critical b i s f
-  critical-refused e = rw e at critical-text
+  pub critical-refused : {x : Refusal} {before after : List ℕ} {q : Printed} → r ≡ Refused x → Prints before (refusedLine x) (some x) q after
+      → Prints before (answerText Critical b i s f) (answerRefusal Critical b i s f) q after
+  critical-refused e = refused-text (written Critical b i s f) (answerReply Critical b i s f) (critical-reply e)
 
   module _ (number : ℕ) (e : r ≡ Value number) where
     found : (criticalRefusal b i s f (length lent) ≡ none) × (number ∷ [] ≡ length (sequenceOf b i s f) ∷ [])
@@ -111,39 +135,68 @@ module _ (b : List ℕ) (i s f : ℕ) (r : Answer) (says : paper r ≡ criticalR
     critical-room =
         rw counted (enough _ 4096 (orElse-none (questionRefusal b i s f) _ (found .0) .1))
 
-    pub critical-filled : (words : List ℕ) → words ≡ criticalWords b i s f lent
-        → numberLines (number ∷ []) ++ pairLines (pairsIn number words) ≡ answerText Critical b i s f
-    critical-filled words p =
+    pairs : (words : List ℕ) → words ≡ criticalWords b i s f lent → pairLines (pairsIn number words) ≡ written Critical b i s f
+    unfolding written
+    pairs words p =
         let σ = sequenceOf b i s f in
         let after : words ≡ inFront (wordsOf σ) lent = p ∙ ap (λ x. unlessRefused x (inFront (wordsOf σ) lent) lent) (found .0) in
-        let pairs : pairsIn number words ≡ σ = ap₂ pairsIn counted after ∙ words-pairs σ (drop (length (wordsOf σ)) lent) in
-        ap (λ τ. numberLines (number ∷ []) ++ pairLines τ) pairs ∙ rw e at critical-text
+        ap pairLines (ap₂ pairsIn counted after ∙ words-pairs σ (drop (length (wordsOf σ)) lent))
+
+    pub critical-filled : {before after : List ℕ} {q : Printed} (words : List ℕ) → words ≡ criticalWords b i s f lent
+        → Prints before (row number [] ++ pairLines (pairsIn number words)) none q after
+        → Prints before (answerText Critical b i s f) (answerRefusal Critical b i s f) q after
+    critical-filled words p t =
+        answered-text (written Critical b i s f) (answerReply Critical b i s f) (critical-reply e)
+        (rw (← number-alone number, pairs words p) at t)
 
 -- what a word says, as it was read
 pub reads : {r x : Number} {said : Option ℕ} → told r ≡ said → r ≡ x → told x ≡ said
 reads says e = sym (ap told e) ∙ says
 
--- the text by what the words say
-module _ (b question machine from to : List ℕ) where
-  pub no-machine : none ≡ readNumber machine → usage ≡ askText b question machine from to
-  no-machine e = ap (λ x. numbersText (kindOf question) b x (readNumber from) (readNumber to)) e
+-- what a word names, as it was read
+pub names : {r x : Name} {said : Option Kind} → named r ≡ said → r ≡ x → named x ≡ said
+names says e = sym (ap named e) ∙ says
 
-  pub no-start : {i : ℕ} → some i ≡ readNumber machine → none ≡ readNumber from
-      → usage ≡ askText b question machine from to
-  no-start e p = ap₂ (λ x y. numbersText (kindOf question) b x y (readNumber to)) e p
+-- what the words ask, by what each of them says
+module _ (words : ℕ) (name machine from to : List ℕ) where
+  pub other-count : (words ≡ 5 → ⊥) → Nothing ≡ asks words name machine from to
+  other-count h = rw (ne-eqb words 5 h)
 
-  pub no-end : {i s : ℕ} → some i ≡ readNumber machine → some s ≡ readNumber from → none ≡ readNumber to
-      → usage ≡ askText b question machine from to
-  no-end e p q = rw (← e, ← p, ← q)
+  module _ (h : words ≡ 5) where
+    five : asksOf (kindOf name) (readNumber machine) (readNumber from) (readNumber to) ≡ asks words name machine from to
+    five = rw (eq-eqb words 5 h)
 
-  pub asked : {kind : Kind} {i s f : ℕ} → kind ≡ kindOf question → some i ≡ readNumber machine
-      → some s ≡ readNumber from → some f ≡ readNumber to → answerText kind b i s f ≡ askText b question machine from to
-  asked k e p q = rw (← e, ← p, ← q, k)
+    pub no-name : none ≡ kindOf name → Nothing ≡ asks words name machine from to
+    no-name k = ap (λ x. asksOf x (readNumber machine) (readNumber from) (readNumber to)) k ∙ five
 
-  -- no second result and no second memory satisfy the contract of `ask`
-  pub ask-unique : (before : List ℕ) (r q : ℕ) (after other : List ℕ)
-      → r ≡ printedLength 65536 (askText b question machine from to) before
-      → after ≡ printed 65536 (askText b question machine from to) before
-      → q ≡ printedLength 65536 (askText b question machine from to) before
-      → other ≡ printed 65536 (askText b question machine from to) before → (r ≡ q) × (after ≡ other)
-  ask-unique = printed-unique 65536 (askText b question machine from to)
+    module _ {kind : Kind} (k : some kind ≡ kindOf name) where
+      pub no-machine : none ≡ readNumber machine → Nothing ≡ asks words name machine from to
+      no-machine e = ap₂ (λ x y. asksOf x y (readNumber from) (readNumber to)) k e ∙ five
+
+      module _ {i : ℕ} (e : some i ≡ readNumber machine) where
+        known : (s f : Option ℕ) → asksOf (some kind) (some i) s f ≡ asksOf (kindOf name) (readNumber machine) s f
+        known s f = ap₂ (λ x y. asksOf x y s f) k e
+
+        pub no-start : none ≡ readNumber from → Nothing ≡ asks words name machine from to
+        no-start p = ap (λ x. asksOf (some kind) (some i) x (readNumber to)) p ∙ known (readNumber from) (readNumber to) ∙ five
+
+        module _ {s : ℕ} (p : some s ≡ readNumber from) where
+          told-end : {f : Option ℕ} → f ≡ readNumber to → asksOf (some kind) (some i) (some s) f ≡ asks words name machine from to
+          told-end q = ap₂ (asksOf (some kind) (some i)) p q ∙ known (readNumber from) (readNumber to) ∙ five
+
+          pub no-end : none ≡ readNumber to → Nothing ≡ asks words name machine from to
+          no-end q = told-end q
+
+          pub this : {f : ℕ} → some f ≡ readNumber to
+              → This (record { kind = kind; machine = i; from = s; to = f }) ≡ asks words name machine from to
+          this q = told-end q
+
+  -- no second result satisfies the contract of `asked_by`
+  pub asked-by-unique : (r q : Asked) → r ≡ asks words name machine from to → q ≡ asks words name machine from to → r ≡ q
+  asked-by-unique r q e p = e ∙ sym p
+
+-- no second result and no second memory satisfy the contract of `ask`
+pub ask-unique : (b : List ℕ) (asked : Question) (before : List ℕ) (r q : Printed) (after other : List ℕ)
+    → Promised 65536 (askText b asked) (askRefusal b asked) before r after
+    → Promised 65536 (askText b asked) (askRefusal b asked) before q other → (r ≡ q) × (after ≡ other)
+ask-unique b asked = promised-unique 65536 (askText b asked) (askRefusal b asked)

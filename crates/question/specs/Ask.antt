@@ -1,11 +1,13 @@
--- The program `ask`: the text of one question's answer.
+-- The program `ask`: what its words ask, and the text of the answer.
 use Prim.Native.Nat.{ℕ}
 use mathlib.Core.Bool.{cond}
 use mathlib.Core.List.{List, [], _∷_, _++_}
 use mathlib.Core.Option.{Option, none, some}
+use lib.Dec.{eqb}
 use lib.ListN.{replicate}
 use Rattle.model.specs.Machine.{machineOf}
 use Rattle.model.specs.Legal.{Pair}
+use Rattle.sheet.specs.declared.Refusal.{Refusal}
 use Rattle.sheet.specs.Format.{decode}
 use Rattle.sheet.specs.Reply.{Reply, answer, refused}
 use Rattle.sheet.specs.Rules.{same}
@@ -13,19 +15,35 @@ use Rattle.bounds.specs.Bounds.{requestReply, demandReply}
 use Rattle.bounds.specs.Table.{requestTable, tableReply}
 use Rattle.critical.specs.Critical.{sequenceOf, criticalReply}
 use Rattle.plain.specs.Plain.{plainReply}
-use Rattle.text.specs.Text.{ascii, line, row, readNumber}
+use Rattle.text.specs.Text.{ascii, row, readNumber}
 use Rattle.report.specs.Fit.{refusedLine}
 use Rattle.question.specs.declared.Kind.{Kind}
-use Rattle.question.specs.declared.Kind.the-variants.{Request, Demand, Table, Critical, Plain, Unknown}
+use Rattle.question.specs.declared.Kind.the-variants.{Request, Demand, Table, Critical, Plain}
+use Rattle.question.specs.declared.Question.{Question}
+use Rattle.question.specs.declared.Asked.{Asked}
+use Rattle.question.specs.declared.Asked.the-variants.{This, Nothing}
 
 -- the question that a word names
-abbrev pub kindOf : List ℕ → Kind
+abbrev pub kindOf : List ℕ → Option Kind
 kindOf word =
-    cond (same word (ascii "request")) Request
-    (cond (same word (ascii "demand")) Demand
-    (cond (same word (ascii "table")) Table
-    (cond (same word (ascii "critical")) Critical
-    (cond (same word (ascii "plain")) Plain Unknown))))
+    cond (same word (ascii "request")) (some Request)
+    (cond (same word (ascii "demand")) (some Demand)
+    (cond (same word (ascii "table")) (some Table)
+    (cond (same word (ascii "critical")) (some Critical)
+    (cond (same word (ascii "plain")) (some Plain) none))))
+
+-- a name and three numbers ask, and nothing else does
+abbrev pub asksOf : Option Kind → Option ℕ → Option ℕ → Option ℕ → Asked
+asksOf none i s f = Nothing
+asksOf (some kind) none s f = Nothing
+asksOf (some kind) (some i) none f = Nothing
+asksOf (some kind) (some i) (some s) none = Nothing
+asksOf (some kind) (some i) (some s) (some f) = This (record { kind = kind; machine = i; from = s; to = f })
+
+-- what so many words ask, the program's own and these four
+abbrev pub asks : ℕ → List ℕ → List ℕ → List ℕ → List ℕ → Asked
+asks words name machine from to =
+    cond (eqb words 5) (asksOf (kindOf name) (readNumber machine) (readNumber from) (readNumber to)) Nothing
 
 -- numbers, one a line
 unfoldable pub numberLines : List ℕ → List ℕ
@@ -42,33 +60,41 @@ abbrev pub replyText : Reply → List ℕ → List ℕ
 replyText (refused r) more = refusedLine r
 replyText (answer number figures) more = numberLines figures ++ more
 
+-- the refusal that a reply is, if it is one
+abbrev pub refusalIn : Reply → Option Refusal
+refusalIn (refused r) = some r
+refusalIn (answer number figures) = none
+
 -- the words that `ask` lends: enough for the longest table and the longest critical sequence
 abbrev pub lent : List ℕ
 lent = replicate 4096 0
 
--- what is printed for words that ask nothing
-unfoldable pub usage : List ℕ
-usage =
-    line (ascii "usage: ask request|demand|critical|plain MACHINE START END") []
-    ++ line (ascii "       ask table MACHINE START LENGTH") []
+-- the reply about machine i of sheet b and the window from s to f
+unfoldable pub answerReply : Kind → List ℕ → ℕ → ℕ → ℕ → Reply
+answerReply Request b i s f = requestReply b i s f
+answerReply Demand b i s f = demandReply b i s f
+answerReply Plain b i s f = plainReply b i s f
+answerReply Table b i s n = tableReply b i s n lent
+answerReply Critical b i s f = criticalReply b i s f lent
 
--- the answer about machine i of sheet b and the window from s to f
-unfoldable pub answerText : Kind → List ℕ → ℕ → ℕ → ℕ → List ℕ
-answerText Request b i s f = replyText (requestReply b i s f) []
-answerText Demand b i s f = replyText (demandReply b i s f) []
-answerText Plain b i s f = replyText (plainReply b i s f) []
-answerText Table b i s n = replyText (tableReply b i s n lent) (numberLines (requestTable (machineOf (decode b) i) s n))
-answerText Critical b i s f = replyText (criticalReply b i s f lent) (pairLines (sequenceOf b i s f))
-answerText Unknown b i s f = usage
+-- what goes with its figures: the words of a table, the pairs of a critical sequence
+unfoldable pub written : Kind → List ℕ → ℕ → ℕ → ℕ → List ℕ
+written Request b i s f = []
+written Demand b i s f = []
+written Plain b i s f = []
+written Table b i s n = numberLines (requestTable (machineOf (decode b) i) s n)
+written Critical b i s f = pairLines (sequenceOf b i s f)
 
--- each of the three words must be a number
-abbrev pub numbersText : Kind → List ℕ → Option ℕ → Option ℕ → Option ℕ → List ℕ
-numbersText kind b none s f = usage
-numbersText kind b (some i) none f = usage
-numbersText kind b (some i) (some s) none = usage
-numbersText kind b (some i) (some s) (some f) = answerText kind b i s f
+-- its text, and the refusal that it prints, if it prints one
+abbrev pub answerText : Kind → List ℕ → ℕ → ℕ → ℕ → List ℕ
+answerText kind b i s f = replyText (answerReply kind b i s f) (written kind b i s f)
 
--- the text of `ask` for four words and a sheet
-abbrev pub askText : List ℕ → List ℕ → List ℕ → List ℕ → List ℕ → List ℕ
-askText b question machine from to =
-    numbersText (kindOf question) b (readNumber machine) (readNumber from) (readNumber to)
+abbrev pub answerRefusal : Kind → List ℕ → ℕ → ℕ → ℕ → Option Refusal
+answerRefusal kind b i s f = refusalIn (answerReply kind b i s f)
+
+-- the same of a question
+abbrev pub askText : List ℕ → Question → List ℕ
+askText b q = answerText (q .kind) b (q .machine) (q .from) (q .to)
+
+abbrev pub askRefusal : List ℕ → Question → Option Refusal
+askRefusal b q = answerRefusal (q .kind) b (q .machine) (q .from) (q .to)

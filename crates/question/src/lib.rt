@@ -5,68 +5,110 @@ ghost use Prim.Native.Nat.{_+_, _*_, _≤_};
 ghost use lib.ListN.{length as ListN·length};
 ghost use Rattle.model.specs.Legal.{Pair};
 ghost use Rattle.text.specs.Inside.{Put};
-ghost use Rattle.report.specs.Fit.{printedLength, printed};
+ghost use Rattle.report.specs.Fit.{printedLength, printedRefusal, printed};
+ghost use Rattle.report.specs.Inside.{Prints};
 ghost use Rattle.window.specs.Window.{paper};
 ghost use Rattle.critical.specs.Critical.{pairsIn};
 ghost use Rattle.question.specs.declared.Kind.the-variants.{Table, Critical};
-ghost use Rattle.question.specs.Ask.{kindOf, numberLines, pairLines, replyText, usage, answerText, askText};
+ghost use Rattle.question.specs.Ask.{kindOf, asks, numberLines, pairLines, refusalIn, replyText};
+ghost use Rattle.question.specs.Ask.{answerText, answerRefusal, askText, askRefusal};
+ghost use Rattle.question.specs.Inside.{named};
 use bounds::Tabled;
+use report::Printed;
 use text::Number;
 use window::Answer;
 
-// The questions that can be asked.
-pub(crate) enum Kind {
+// What can be asked about a machine and a window.
+pub enum Kind {
     Request,
     Demand,
     Table,
     Critical,
     Plain,
+}
+
+// A question. For a table `to` is its length.
+pub struct Question {
+    pub kind: Kind,
+    pub machine: u32,
+    pub from: u32,
+    pub to: u32,
+}
+
+// What the words of a command line ask.
+pub enum Asked {
+    This(Question),
+    Nothing,
+}
+
+pub(crate) enum Name {
+    Of(Kind),
     Unknown,
 }
 
 // Reads the name of a question.
-fn kind_of(word: &[u8]) -> Kind
-    ensures { λ r. ⌜ r ≡ kindOf (now (word .entry)) ⌝ }
+fn kind_of(word: &[u8]) -> Name
+    ensures { λ r. ⌜ named r ≡ kindOf (now (word .entry)) ⌝ }
 {
     if check::same(word, b"request") {
-        return Kind::Request;
+        return Name::Of(Kind::Request);
     }
     if check::same(word, b"demand") {
-        return Kind::Demand;
+        return Name::Of(Kind::Demand);
     }
     if check::same(word, b"table") {
-        return Kind::Table;
+        return Name::Of(Kind::Table);
     }
     if check::same(word, b"critical") {
-        return Kind::Critical;
+        return Name::Of(Kind::Critical);
     }
     if check::same(word, b"plain") {
-        return Kind::Plain;
+        return Name::Of(Kind::Plain);
     }
-    Kind::Unknown
+    Name::Unknown
 }
 
-// What is printed for words that ask nothing.
-fn put_usage(out: &mut [u8]) -> usize
-    requires { ⌜ 256 ≤ ListN·length (now out) ⌝ }
-    ensures { λ r. ⌜ Put (now (out .entry)) 0 usage r (now (out .exit)) ⌝ }
+// Reads the words of a command line: five with the program's own, which are not lent, the name of a question, and the three
+// numbers of a machine and a window.
+pub fn asked_by(words: usize, name: &[u8], machine: &[u8], from: &[u8], to: &[u8]) -> Asked
+    ensures { λ r. ⌜ r ≡ asks words (now (name .entry)) (now (machine .entry)) (now (from .entry)) (now (to .entry)) ⌝ }
 {
-    let first = text::put_bytes(
-        out,
-        0,
-        b"usage: ask request|demand|critical|plain MACHINE START END\n",
-    );
-    text::put_bytes(out, first, b"       ask table MACHINE START LENGTH\n")
+    if words != 5 {
+        return Asked::Nothing;
+    }
+    let known = kind_of(name);
+    let Name::Of(kind) = known else {
+        return Asked::Nothing;
+    };
+    let number = text::read_number(machine);
+    let Number::Value(machine) = number else {
+        return Asked::Nothing;
+    };
+    let start = text::read_number(from);
+    let Number::Value(from) = start else {
+        return Asked::Nothing;
+    };
+    let end = text::read_number(to);
+    let Number::Value(to) = end else {
+        return Asked::Nothing;
+    };
+    Asked::This(Question {
+        kind,
+        machine,
+        from,
+        to,
+    })
 }
 
 // The figure of an answer, or its refusal.
-fn put_figure(out: &mut [u8], answer: Answer) -> usize
+fn print_figure(out: &mut [u8], answer: Answer) -> Printed
     requires { ⌜ 256 ≤ ListN·length (now out) ⌝ }
-    ensures { λ r. ⌜ Put (now (out .entry)) 0 (replyText (paper answer) []) r (now (out .exit)) ⌝ }
+    ensures { λ r. ⌜ Prints (now (out .entry)) (replyText (paper answer) []) (refusalIn (paper answer)) r
+        (now (out .exit)) ⌝ }
 {
     match answer {
-        Answer::Value(figure) => text::put_row(out, 0, figure, &[]),
-        Answer::Refused(refusal) => report::put_refused(out, 0, refusal),
+        Answer::Value(figure) => report::answered(text::put_row(out, 0, figure, &[])),
+        Answer::Refused(refusal) => report::print_refused(out, refusal),
     }
 }
 
@@ -100,83 +142,75 @@ fn put_pairs(out: &mut [u8], at: usize, words: &[u32], pairs: usize) -> usize
 }
 
 // The request table from `from` on, a number a line, or the refusal.
-fn put_table(out: &mut [u8], sheet: &[u8], machine: u32, from: u32, length: u32) -> usize
+fn print_table(out: &mut [u8], sheet: &[u8], machine: u32, from: u32, length: u32) -> Printed
     requires { ⌜ 65536 ≤ ListN·length (now out) ⌝ }
-    ensures { λ r. ⌜ Put (now (out .entry)) 0 (answerText Table (now (sheet .entry)) machine from length)
-        r (now (out .exit)) ⌝ }
+    ensures { λ r. ⌜ Prints (now (out .entry)) (answerText Table (now (sheet .entry)) machine from length)
+        (answerRefusal Table (now (sheet .entry)) machine from length) r (now (out .exit)) ⌝ }
 {
     let mut words = [0u32; 4096];
     let tabled = bounds::table(sheet, machine, from, length, &mut words);
     match tabled {
-        Tabled::Filled => put_numbers(out, &words[..length as usize + 1]),
-        Tabled::Refused(refusal) => report::put_refused(out, 0, refusal),
+        Tabled::Filled => report::answered(put_numbers(out, &words[..length as usize + 1])),
+        Tabled::Refused(refusal) => report::print_refused(out, refusal),
     }
 }
 
 // The critical sequence's number of pairs and a line for each, or the refusal.
-fn put_critical(out: &mut [u8], sheet: &[u8], machine: u32, from: u32, to: u32) -> usize
+fn print_critical(out: &mut [u8], sheet: &[u8], machine: u32, from: u32, to: u32) -> Printed
     requires { ⌜ 65536 ≤ ListN·length (now out) ⌝ }
-    ensures { λ r. ⌜ Put (now (out .entry)) 0 (answerText Critical (now (sheet .entry)) machine from to)
-        r (now (out .exit)) ⌝ }
+    ensures { λ r. ⌜ Prints (now (out .entry)) (answerText Critical (now (sheet .entry)) machine from to)
+        (answerRefusal Critical (now (sheet .entry)) machine from to) r (now (out .exit)) ⌝ }
 {
     let mut words = [0u32; 4096];
     let answer = critical::critical(sheet, machine, from, to, &mut words);
     match answer {
         Answer::Value(pairs) => {
             let next = text::put_row(out, 0, pairs, &[]);
-            put_pairs(out, next, &words, pairs as usize)
+            report::answered(put_pairs(out, next, &words, pairs as usize))
         }
-        Answer::Refused(refusal) => report::put_refused(out, 0, refusal),
+        Answer::Refused(refusal) => report::print_refused(out, refusal),
     }
 }
 
 // The answer to a question of the kind.
-fn put_answer(out: &mut [u8], sheet: &[u8], kind: Kind, machine: u32, from: u32, to: u32) -> usize
+fn print_answer(
+    out: &mut [u8],
+    sheet: &[u8],
+    kind: Kind,
+    machine: u32,
+    from: u32,
+    to: u32,
+) -> Printed
     requires { ⌜ 65536 ≤ ListN·length (now out) ⌝ }
-    ensures { λ r. ⌜ Put (now (out .entry)) 0 (answerText kind (now (sheet .entry)) machine from to)
-        r (now (out .exit)) ⌝ }
+    ensures { λ r. ⌜ Prints (now (out .entry)) (answerText kind (now (sheet .entry)) machine from to)
+        (answerRefusal kind (now (sheet .entry)) machine from to) r (now (out .exit)) ⌝ }
 {
     match kind {
-        Kind::Request => put_figure(out, bounds::request(sheet, machine, from, to)),
-        Kind::Demand => put_figure(out, bounds::demand(sheet, machine, from, to)),
-        Kind::Plain => put_figure(out, plain::plain(sheet, machine, from, to)),
-        Kind::Table => put_table(out, sheet, machine, from, to),
-        Kind::Critical => put_critical(out, sheet, machine, from, to),
-        Kind::Unknown => put_usage(out),
+        Kind::Request => print_figure(out, bounds::request(sheet, machine, from, to)),
+        Kind::Demand => print_figure(out, bounds::demand(sheet, machine, from, to)),
+        Kind::Plain => print_figure(out, plain::plain(sheet, machine, from, to)),
+        Kind::Table => print_table(out, sheet, machine, from, to),
+        Kind::Critical => print_critical(out, sheet, machine, from, to),
     }
 }
 
-// Makes the text of `ask` at the start of the lent bytes and answers its length: of a sheet, the name
-// of a question, and the three numbers of a machine and a window, in words. Bytes past the text stay
-// as they were; with fewer than 65,536 bytes lent nothing is written, and the answer is 0.
-pub fn ask(
-    sheet: &[u8],
-    question: &[u8],
-    machine: &[u8],
-    from: &[u8],
-    to: &[u8],
-    out: &mut [u8],
-) -> usize
-    ensures { λ r. ⌜ r ≡ printedLength 65536 (askText (now (sheet .entry)) (now (question .entry))
-        (now (machine .entry)) (now (from .entry)) (now (to .entry))) (now (out .entry)) ⌝ }
-    ensures { λ _. ⌜ now (out .exit) ≡ printed 65536 (askText (now (sheet .entry)) (now (question .entry))
-        (now (machine .entry)) (now (from .entry)) (now (to .entry))) (now (out .entry)) ⌝ }
+// Makes the text of `ask` for a question at the start of the lent bytes and answers its length, and the refusal that it
+// prints. Bytes past the text stay as they were; with fewer than 65,536 bytes lent nothing is written, and the length is 0.
+pub fn ask(sheet: &[u8], question: Question, out: &mut [u8]) -> Printed
+    ensures { λ r. ⌜ r .length ≡ printedLength 65536 (askText (now (sheet .entry)) question) (now (out .entry)) ⌝ }
+    ensures { λ r. ⌜ r .refusal ≡ printedRefusal 65536 (askRefusal (now (sheet .entry)) question) (now (out .entry)) ⌝ }
+    ensures { λ _. ⌜ now (out .exit) ≡ printed 65536 (askText (now (sheet .entry)) question) (now (out .entry)) ⌝ }
 {
     if out.len() < 65536 {
-        return 0;
+        return report::answered(0);
     }
-    let kind = kind_of(question);
-    let number = text::read_number(machine);
-    let Number::Value(asked) = number else {
-        return put_usage(out);
-    };
-    let start = text::read_number(from);
-    let Number::Value(first) = start else {
-        return put_usage(out);
-    };
-    let end = text::read_number(to);
-    let Number::Value(last) = end else {
-        return put_usage(out);
-    };
-    put_answer(out, sheet, kind, asked, first, last)
+    let kind = question.kind;
+    print_answer(
+        out,
+        sheet,
+        kind,
+        question.machine,
+        question.from,
+        question.to,
+    )
 }

@@ -8,9 +8,10 @@ use mathlib.Core.Option.{Option, none, some}
 use native.Mathlib.Omega.{arith}
 use native.Mathlib.Nat.{add-zero}
 use native.Mathlib.Numerals.{add-one}
+use native.Mathlib.Decide.{decLe}
 use lib.Dec.{leb}
 use borrow.Author.Tests.{le-leb, lt-leb}
-use lib.ListN.{length, drop}
+use lib.ListN.{length, drop, length-append}
 use Rattle.model.specs.Machine.{count, machineOf, hyperperiod}
 use Rattle.model.specs.Reckon.{request}
 use Rattle.model.specs.Verdict.{Judgement, verdict}
@@ -129,12 +130,27 @@ module _ {text before after : List ℕ} {r : ℕ} (room : ℕ) (lent : room ≤ 
   whole = omega (arith, p .next)
 
   pub printed-so : (r ≡ printedLength room text before) × (after ≡ printed room text before)
+  unfolding printedLength printed
   printed-so = rw (le-leb room (length before) lent) (whole, p .says ∙ ap (λ n. text ++ drop n before) whole)
 
 -- too few bytes are left as they were
 pub unprinted : (room : ℕ) (text before : List ℕ) → length before < room
     → (0 ≡ printedLength room text before) × (before ≡ printed room text before)
+unfolding printedLength printed
 unprinted room text before lent = rw (lt-leb room (length before) lent) (refl, refl)
+
+-- a printed text lies within the lent bytes
+pub printed-within : (room : ℕ) (text before : List ℕ) {r : ℕ} {after : List ℕ} → r ≡ printedLength room text before
+    → after ≡ printed room text before → r ≤ length after
+unfolding printedLength printed
+printed-within room text before {r} {after} e p =
+    elim (decLe room (length before)) [
+      | yes l ↦
+          let length-is = rw (le-leb room (length before) l) at e in
+          let memory-is = rw (le-leb room (length before) l) at p in
+          omega (arith, length-is, ap length memory-is, length-append text (drop (length text) before))
+      | no l ↦ let none-put = rw (lt-leb room (length before) (omega arith)) at e in omega (arith, none-put)
+    ]
 
 -- what a call promises that makes a text: its length, the refusal that it prints, and the lent bytes afterwards
 abbrev pub Promised : ℕ → List ℕ → Option Refusal → List ℕ → Printed → List ℕ → Type 0
@@ -151,6 +167,7 @@ module _ {n : ℕ} {r : Printed} (e : (r .length ≡ n) × (r .refusal ≡ hande
   -- nor where nothing is printed
   pub nothing-prints : (room : ℕ) (text before : List ℕ) (x : Option Refusal) → n ≡ 0 → length before < room
       → Promised room text x before r before
+  unfolding printedRefusal
   nothing-prints room text before x zero lent =
       let (none-put, memory) = unprinted room text before lent in
       (e .0 ∙ zero ∙ none-put, (rw (lt-leb room (length before) lent) (e .1), memory))
@@ -158,6 +175,7 @@ module _ {n : ℕ} {r : Printed} (e : (r .length ≡ n) × (r .refusal ≡ hande
 -- a text that has been printed, with the refusal that it prints
 pub prints-so : {before text after : List ℕ} {x : Option Refusal} {r : Printed} (room : ℕ) → room ≤ length before
     → Prints before text x r after → Promised room text x before r after
+unfolding printedRefusal
 prints-so {before} {x = x} room lent p =
     let (size, memory) = printed-so room lent (p .put) in
     (size, (p .hands ∙ rw (le-leb room (length before) lent) refl, memory))
@@ -181,11 +199,10 @@ printed-unique room text before r q after other e p g s = (e ∙ sym g, p ∙ sy
 -- a text has one length, one refusal and one memory
 pub promised-unique : (room : ℕ) (text : List ℕ) (x : Option Refusal) (before : List ℕ) (r q : Printed) (after other : List ℕ)
     → Promised room text x before r after → Promised room text x before q other → (r ≡ q) × (after ≡ other)
-promised-unique room text x before r q after other p s =
-    (
-      ap₂ (λ n y. record { length = n; refusal = y }) (p .0 ∙ sym (s .0)) (p .1 .0 ∙ sym (s .1 .0)),
-      p .1 .1 ∙ sym (s .1 .1),
-    )
+promised-unique room text x before r q after other p s = (
+  ap₂ (λ n y. record { length = n; refusal = y }) (p .0 ∙ sym (s .0)) (p .1 .0 ∙ sym (s .1 .0)),
+  p .1 .1 ∙ sym (s .1 .1),
+)
 
 -- no second result and no second memory satisfy the contract of `fit`
 pub fit-unique : (b before : List ℕ) (r q : Printed) (after other : List ℕ)

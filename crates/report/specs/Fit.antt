@@ -48,11 +48,11 @@ abbrev pub fitText : List ℕ → List ℕ
 fitText b = fitOf (refusalOf b) (decode b)
 
 -- a text goes to the start of the lent bytes, where there are `room` of them at least: how many it takes
-abbrev pub printedLength : ℕ → List ℕ → List ℕ → ℕ
+unfoldable pub printedLength : ℕ → List ℕ → List ℕ → ℕ
 printedLength room text out = cond (leb room (length out)) (length text) 0
 
 -- what they then hold
-abbrev pub printed : ℕ → List ℕ → List ℕ → List ℕ
+unfoldable pub printed : ℕ → List ℕ → List ℕ → List ℕ
 printed room text out = cond (leb room (length out)) (text ++ drop (length text) out) out
 
 -- a refusal as it is handed back: where there is none, number 0 at place 0, 0
@@ -61,5 +61,5 @@ handed none = refusal 0 0 0
 handed (some r) = r
 
 -- the refusal that the text prints
-abbrev pub printedRefusal : ℕ → Option Refusal → List ℕ → Refusal
+unfoldable pub printedRefusal : ℕ → Option Refusal → List ℕ → Refusal
 printedRefusal room x out = cond (leb room (length out)) (handed x) (handed none)

@@ -1,8 +1,11 @@
-// The standard streams of the programs. No contract can say what is read or written: that is run by the gate.
+// The standard streams of the programs. No contract can say what is read or written; the gate runs it.
 ghost use Rattle.terminal.specs.Inside.{Within};
+use libc::STDERR_FILENO;
 use libc::STDIN_FILENO;
+use libc::STDOUT_FILENO;
+use sheet::Refusal;
 
-// What reading a sheet came to: so many bytes at the start of those lent, or a read that failed, whatever came before it.
+// What reading a sheet came to: so many bytes, at the start of those lent, or a read that failed, whatever came before it.
 pub enum Input {
     Bytes(usize),
     Failed,
@@ -35,4 +38,22 @@ fn read_some(bytes: &mut [u8]) -> Input
         return Input::Failed;
     }
     Input::Bytes(io::count(got, bytes))
+}
+
+// Says a line on standard error.
+pub fn say(line: &[u8]) {
+    io::write_all(STDERR_FILENO, line);
+}
+
+// Prints a text on standard output, or says the line that is given for a failure; and says a refusal in words.
+pub fn print(program: &[u8], text: &[u8], failure: &[u8], refusal: Refusal) {
+    if !io::write_all(STDOUT_FILENO, text) {
+        say(failure);
+    }
+    if refusal.number == 0 {
+        return;
+    }
+    let mut line = [0u8; 512];
+    let length = report::explain(program, refusal, &mut line);
+    say(&line[..length]);
 }

@@ -1,5 +1,6 @@
 use mathlib.Core.Path.{sym}
 use lib.Seq.{length-take-le}
+use Rattle.report.proofs.Fitting.{printed-within}
 use borrow.Author.Needs.{needs}
 use Rattle.ask.proofs.print.Statement.{statement}
 use Rattle.ask.proofs.print.Tie as tie
@@ -10,20 +11,27 @@ slice-aggregate-ask c = search needs
 ask-requires : tie.Need-ask-requires
 ask-requires c κs = search needs
 
-slice-aggregate-text : tie.Need-slice-aggregate-text
-slice-aggregate-text c = search needs
+slice-aggregate-print : tie.Need-slice-aggregate-print
+slice-aggregate-print c = search needs
 
-slice-aggregate-write-all : tie.Need-slice-aggregate-write-all
-slice-aggregate-write-all c = sym (length-take-le _ _ (c .before .if1 .taken))
+array-share-prefix-out : tie.Need-array-share-prefix-out
+array-share-prefix-out c =
+    let made = c .before .before in
+    printed-within _ _ _ (made .ask .ensures .0) (made .ask .ensures .1 .1)
 
-write-all-requires : tie.Need-write-all-requires
-write-all-requires c κs = search needs
+slice-aggregate-print-2 : tie.Need-slice-aggregate-print-2
+slice-aggregate-print-2 c =
+    let made = c .before .before .before in
+    sym (length-take-le _ _ (printed-within _ _ _ (made .ask .ensures .0) (made .ask .ensures .1 .1)))
+
+slice-aggregate-print-3 : tie.Need-slice-aggregate-print-3
+slice-aggregate-print-3 c = search needs
+
+print-requires : tie.Need-print-requires
+print-requires c κs = search needs
 
 returns : tie.Need-returns
 returns c = search needs
-
-returns-2 : tie.Need-returns-2
-returns-2 c = search needs
 
 pub print-spec : {M : Type 1} → statement M
 print-spec =
@@ -31,8 +39,9 @@ print-spec =
     (tie.spec
     slice-aggregate-ask
     ask-requires
-    slice-aggregate-text
-    slice-aggregate-write-all
-    write-all-requires
-    returns
-    returns-2)
+    slice-aggregate-print
+    array-share-prefix-out
+    slice-aggregate-print-2
+    slice-aggregate-print-3
+    print-requires
+    returns)

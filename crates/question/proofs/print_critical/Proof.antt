@@ -1,11 +1,11 @@
-use Rattle.question.proofs.Lines.{number-alone}
-use Rattle.question.proofs.Asking.{critical-room, critical-filled, critical-refused}
 use Rattle.text.proofs.Laws.{put-then}
+use Rattle.report.proofs.Fitting.{answer-prints}
+use Rattle.question.proofs.Asking.{critical-room, critical-filled, critical-refused}
 use denote.Ref.{now}
 use native.Mathlib.Omega.{arith}
 use borrow.Author.Needs.{needs}
-use Rattle.question.proofs.put_critical.Statement.{statement}
-use Rattle.question.proofs.put_critical.Tie as tie
+use Rattle.question.proofs.print_critical.Statement.{statement}
+use Rattle.question.proofs.print_critical.Tie as tie
 
 slice-aggregate-critical : tie.Need-slice-aggregate-critical
 slice-aggregate-critical c = search needs
@@ -37,43 +37,43 @@ put-pairs-requires c κs =
     let put = c .before .before .before .before in
     (omega (arith, room), omega (arith, room, found .before .before .before .before .pre, put .put-row .ensures .0 .size, put .put-row .ensures .1))
 
+answered-requires : tie.Need-answered-requires
+answered-requires c κs = search needs
+
 enum-known-answer-2 : tie.Need-enum-known-answer-2
 enum-known-answer-2 c = search needs
 
-put-refused-requires : tie.Need-put-refused-requires
-put-refused-requires c κs = search needs
+print-refused-requires : tie.Need-print-refused-requires
+print-refused-requires c κs = search needs
 
 same-length : tie.Need-same-length
 same-length c = search needs
 
 returns : tie.Need-returns
 returns c =
-    let known = c .before .before .before .before .before .before .before .before .before .before .before in
+    let lines = c .before .before .before in
+    let put = lines .before .before .before .before .before in
+    let known = put .before .before .before .before in
     let found = known .before .before .before in
     let args = found .before .before .before .before .args in
-    let put = c .before .before .before .before .before .before .before in
-    let whole = put-then (put .put-row .ensures .0) (c .before .before .put-pairs .ensures) in
-    rw (
-      ← number-alone _,
-      critical-filled (now (args .sheet)) (args .machine) (args .from) (args .to) _ (found .critical .ensures .0) _ (known .answer .given .1)
-          _ (found .critical .ensures .1 .0),
-    ) at whole
+    let whole = put-then (put .put-row .ensures .0) (lines .put-pairs .ensures) in
+    critical-filled (now (args .sheet)) (args .machine) (args .from) (args .to) _ (found .critical .ensures .0) _ (known .answer .given .1)
+    _ (found .critical .ensures .1 .0) (answer-prints (c .answered .ensures) whole)
 
 same-length-2 : tie.Need-same-length-2
 same-length-2 c = search needs
 
 returns-2 : tie.Need-returns-2
 returns-2 c =
-    let known = c .before .before .before .before .before in
+    let put = c .before .before in
+    let known = put .before .before .before in
     let found = known .before .before .before in
     let args = found .before .before .before .before .args in
-    rw (
     critical-refused (now (args .sheet)) (args .machine) (args .from) (args .to) _ (found .critical .ensures .0)
-    (known .answer2 .given .1)
-    ) at (c .before .before .put-refused .ensures)
+    (known .answer2 .given .1) (put .print-refused .ensures)
 
-pub put-critical-spec : {M : Type 1} → statement M
-put-critical-spec =
+pub print-critical-spec : {M : Type 1} → statement M
+print-critical-spec =
     tie.close
     (tie.spec
     slice-aggregate-critical
@@ -84,8 +84,9 @@ put-critical-spec =
     slice-aggregate-put-pairs
     cast-put-pairs
     put-pairs-requires
+    answered-requires
     enum-known-answer-2
-    put-refused-requires
+    print-refused-requires
     same-length
     returns
     same-length-2

@@ -1,9 +1,10 @@
+use Rattle.report.proofs.Fitting.{answer-prints}
 use Rattle.question.proofs.Asking.{table-room, table-taken, table-filled, table-refused}
 use denote.Ref.{now}
 use native.Mathlib.Omega.{arith}
 use borrow.Author.Needs.{needs}
-use Rattle.question.proofs.put_table.Statement.{statement}
-use Rattle.question.proofs.put_table.Tie as tie
+use Rattle.question.proofs.print_table.Statement.{statement}
+use Rattle.question.proofs.print_table.Tie as tie
 
 slice-aggregate-table : tie.Need-slice-aggregate-table
 slice-aggregate-table c = search needs
@@ -48,40 +49,41 @@ put-numbers-requires c κs =
           _ (table .table .ensures .1 .0),
     )
 
+answered-requires : tie.Need-answered-requires
+answered-requires c κs = search needs
+
 enum-known-tabled : tie.Need-enum-known-tabled
 enum-known-tabled c = search needs
 
-put-refused-requires : tie.Need-put-refused-requires
-put-refused-requires c κs = search needs
+print-refused-requires : tie.Need-print-refused-requires
+print-refused-requires c κs = search needs
 
 same-length : tie.Need-same-length
 same-length c = search needs
 
 returns : tie.Need-returns
 returns c =
-    let told = c .before .before .before .before .before in
+    let put = c .before .before .before in
+    let told = put .before .before .before in
     let table = told .before .before .before in
     let args = table .before .before .before .before .args in
-    rw (
     table-filled (now (args .sheet)) (args .machine) (args .from) (args .length) _ (table .table .ensures .0) (told .enum-told .given .1)
-    _ (table .table .ensures .1 .0)
-    ) at (c .before .before .put-numbers .ensures)
+    _ (table .table .ensures .1 .0) (answer-prints (c .answered .ensures) (put .put-numbers .ensures))
 
 same-length-2 : tie.Need-same-length-2
 same-length-2 c = search needs
 
 returns-2 : tie.Need-returns-2
 returns-2 c =
-    let known = c .before .before .before .before .before in
+    let put = c .before .before in
+    let known = put .before .before .before in
     let table = known .before .before .before in
     let args = table .before .before .before .before .args in
-    rw (
     table-refused (now (args .sheet)) (args .machine) (args .from) (args .length) _ (table .table .ensures .0)
-    (known .tabled .given .1)
-    ) at (c .before .before .put-refused .ensures)
+    (known .tabled .given .1) (put .print-refused .ensures)
 
-pub put-table-spec : {M : Type 1} → statement M
-put-table-spec =
+pub print-table-spec : {M : Type 1} → statement M
+print-table-spec =
     tie.close
     (tie.spec
     slice-aggregate-table
@@ -91,8 +93,9 @@ put-table-spec =
     array-share-prefix-words
     slice-aggregate-put-numbers
     put-numbers-requires
+    answered-requires
     enum-known-tabled
-    put-refused-requires
+    print-refused-requires
     same-length
     returns
     same-length-2

@@ -1,0 +1,47 @@
+use mathlib.Core.Path.{sym}
+use lib.Seq.{length-take-le}
+use Rattle.report.proofs.Fitting.{printed-within}
+use borrow.Author.Needs.{needs}
+use Rattle.fit.proofs.print.Statement.{statement}
+use Rattle.fit.proofs.print.Tie as tie
+
+slice-aggregate-fit : tie.Need-slice-aggregate-fit
+slice-aggregate-fit c = search needs
+
+fit-requires : tie.Need-fit-requires
+fit-requires c κs = search needs
+
+slice-aggregate-print : tie.Need-slice-aggregate-print
+slice-aggregate-print c = search needs
+
+array-share-prefix-out : tie.Need-array-share-prefix-out
+array-share-prefix-out c =
+    let made = c .before .before in
+    printed-within _ _ _ (made .fit .ensures .0) (made .fit .ensures .1 .1)
+
+slice-aggregate-print-2 : tie.Need-slice-aggregate-print-2
+slice-aggregate-print-2 c =
+    let made = c .before .before .before in
+    sym (length-take-le _ _ (printed-within _ _ _ (made .fit .ensures .0) (made .fit .ensures .1 .1)))
+
+slice-aggregate-print-3 : tie.Need-slice-aggregate-print-3
+slice-aggregate-print-3 c = search needs
+
+print-requires : tie.Need-print-requires
+print-requires c κs = search needs
+
+returns : tie.Need-returns
+returns c = search needs
+
+pub print-spec : {M : Type 1} → statement M
+print-spec =
+    tie.close
+    (tie.spec
+    slice-aggregate-fit
+    fit-requires
+    slice-aggregate-print
+    array-share-prefix-out
+    slice-aggregate-print-2
+    slice-aggregate-print-3
+    print-requires
+    returns)
