@@ -25,7 +25,9 @@ same-length c = search needs
 returns-2 : tie.Need-returns-2
 returns-2 c =
     let put = c .before .before in
-    prints-so 65536 (omega (arith, put .before .before .if1 .left)) (put .print-answer .ensures)
+    let args = put .before .before .before .before .before .args in
+    prints-so {text = askText (now (args .sheet)) (args .question)} {x = askRefusal (now (args .sheet)) (args .question)} 65536
+    (omega (arith, put .before .before .if1 .left)) (put .print-answer .ensures)
 
 pub ask-spec : {M : Type 1} → statement M
 ask-spec =

@@ -6,9 +6,6 @@ use borrow.Author.Needs.{needs}
 use Rattle.io.proofs.Counting.{counts}
 use Rattle.terminal.proofs.read_sheet.Statement.{statement}
 use Rattle.terminal.proofs.read_sheet.Tie as tie
-use Rattle.terminal.proofs.read_sheet.Reads as reads
-use Rattle.terminal.proofs.read_sheet.Lts as lts
-use Rattle.terminal.proofs.read_some.Reads as read-some-reads
 
 abbrev Inv-loop : tie.InvT-loop
 Inv-loop bytes₀ done₀ bytes done = (done ≤ length bytes) × (length bytes ≡ length bytes₀)
@@ -16,73 +13,57 @@ Inv-loop bytes₀ done₀ bytes done = (done ≤ length bytes) × (length bytes 
 abbrev μ-loop : tie.MeasureT-loop
 μ-loop bytes₀ done₀ bytes done = length bytes - done
 
--- src/lib.rt:16:5
 loop-holds : tie.Need-loop-holds Inv-loop μ-loop
 loop-holds c = search needs
 
--- src/lib.rt:17:30
 sub-read-some : tie.Need-sub-read-some Inv-loop μ-loop
 sub-read-some c = search needs
 
--- src/lib.rt:17:30
 part-read-some-start : tie.Need-part-read-some-start Inv-loop μ-loop
 part-read-some-start c = search needs
 
--- src/lib.rt:17:30
 part-read-some-end : tie.Need-part-read-some-end Inv-loop μ-loop
 part-read-some-end c = search needs
 
--- src/lib.rt:17:13
 read-some-requires : tie.Need-read-some-requires Inv-loop μ-loop
 read-some-requires c κs = search needs
 
--- src/lib.rt:18:26
 enum-known-read : tie.Need-enum-known-read Inv-loop μ-loop
 enum-known-read c = search needs
 
--- src/lib.rt:19:13
 enum-told : tie.Need-enum-told Inv-loop μ-loop
 enum-told c = search needs
 
--- src/lib.rt:19:13
 same-length : tie.Need-same-length Inv-loop μ-loop
 same-length c = search needs
 
--- src/lib.rt:19:13
 returns : tie.Need-returns Inv-loop μ-loop
 returns c = search needs
 
--- src/lib.rt:22:13
 same-length-2 : tie.Need-same-length-2 Inv-loop μ-loop
 same-length-2 c = search needs
 
--- src/lib.rt:22:13
 returns-2 : tie.Need-returns-2 Inv-loop μ-loop
 returns-2 c = counts _ _ (omega arith)
 
--- src/lib.rt:24:9
 add-done : tie.Need-add-done Inv-loop μ-loop
 add-done c =
     let known = c .before .before in
     let more = rw (known .read .given .1) at (known .before .before .before .before .read-some .ensures) in
     omega (arith, more .0)
 
--- src/lib.rt:16:5
 loop-less : tie.Need-loop-less Inv-loop μ-loop
 loop-less c = search needs
 
--- src/lib.rt:16:5
 loop-again : tie.Need-loop-again Inv-loop μ-loop
 loop-again c =
     let known = c .before .before in
     let more = rw (known .read .given .1) at (known .before .before .before .before .read-some .ensures) in
     omega (arith, more .0)
 
--- src/lib.rt:12:1
 same-length-3 : tie.Need-same-length-3 Inv-loop μ-loop
 same-length-3 c = search needs
 
--- src/lib.rt:12:1
 returns-3 : tie.Need-returns-3 Inv-loop μ-loop
 returns-3 c = counts _ _ (omega arith)
 
