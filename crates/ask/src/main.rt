@@ -1,6 +1,6 @@
-// Answers one question about a sheet from standard input. Four words of the command line name the question, the machine and
-// the window; for words that ask nothing the usage is said on standard error, and no sheet is read. A word of over 64
-// characters is none. One byte more than a sheet can have is read, so that a longer input is refused.
+// Answers one question about a sheet from standard input. Four words of the command line name the question, the machine
+// and the window; for words that ask nothing the usage is said on standard error, and no sheet is read. A word of over
+// 64 characters is none.
 use question::Asked;
 use question::Question;
 use terminal::Input;
@@ -24,15 +24,14 @@ fn main() {
     match asked {
         Asked::This(question) => answer(question),
         Asked::Nothing => {
-            terminal::say(
-                b"usage: ask request|demand|critical|plain MACHINE START END < SHEET\n       ask table MACHINE START LENGTH < SHEET\n",
-            );
+            terminal::say(b"usage: ask request|demand|critical|plain MACHINE START END < SHEET\n");
+            terminal::say(b"       ask table MACHINE START LENGTH < SHEET\n");
         }
     }
 }
 
 fn answer(question: Question) {
-    let mut bytes = [0u8; 2125];
+    let mut bytes = terminal::sheet_room();
     let input = terminal::read_sheet(&mut bytes);
     match input {
         Input::Bytes(used) => print(&bytes[..used], question),

@@ -1,6 +1,5 @@
 // Reads a sheet from standard input and prints its check, as document 01 has it: H, a line a machine, the verdict; or
-// REFUSED with number and place, and on standard error in words. A sheet has at most 2,124 bytes: one byte more is read, so
-// that a longer input is refused as too long.
+// REFUSED with number and place, whose words go to standard error.
 use terminal::Input;
 
 fn main() {
@@ -8,7 +7,7 @@ fn main() {
         terminal::say(b"usage: fit < SHEET\n");
         return;
     }
-    let mut bytes = [0u8; 2125];
+    let mut bytes = terminal::sheet_room();
     let input = terminal::read_sheet(&mut bytes);
     match input {
         Input::Bytes(used) => print(&bytes[..used]),

@@ -68,7 +68,8 @@ module _ (more : List ℕ) (reply : Reply) {before after : List ℕ} {q : Printe
       → Prints before (replyText reply more) (refusalIn reply) q after
   refused-text e p = rw e p
 
-  pub answered-text : {n : ℕ} {figures : List ℕ} → reply ≡ answer n figures → Prints before (numberLines figures ++ more) none q after
+  pub answered-text : {n : ℕ} {figures : List ℕ} → reply ≡ answer n figures
+      → Prints before (numberLines figures ++ more) none q after
       → Prints before (replyText reply more) (refusalIn reply) q after
   answered-text e p = rw e p
 
@@ -82,7 +83,8 @@ module _ (b : List ℕ) (i s n : ℕ) (r : Tabled) (says : tabledPaper r ≡ tab
   unfolding answerReply
   table-reply e = sym says ∙ ap tabledPaper e
 
-  pub table-refused : {x : Refusal} {before after : List ℕ} {q : Printed} → r ≡ refusedWith x → Prints before (refusedLine x) (some x) q after
+  pub table-refused : {x : Refusal} {before after : List ℕ} {q : Printed} → r ≡ refusedWith x
+      → Prints before (refusedLine x) (some x) q after
       → Prints before (answerText Table b i s n) (answerRefusal Table b i s n) q after
   table-refused e = refused-text (written Table b i s n) (answerReply Table b i s n) (table-reply e)
 
@@ -106,9 +108,12 @@ module _ (b : List ℕ) (i s n : ℕ) (r : Tabled) (says : tabledPaper r ≡ tab
 
       lines : numberLines (take (n + 1) words) ≡ numberLines [] ++ written Table b i s n
       unfolding written
-      lines = ap numberLines front ∙ ap (λ l. l ++ numberLines (requestTable (machineOf (decode b) i) s n)) (sym no-numbers)
+      lines =
+          let table = numberLines (requestTable (machineOf (decode b) i) s n) in
+          ap numberLines front ∙ ap (λ l. l ++ table) (sym no-numbers)
 
-      pub table-filled : {before after : List ℕ} {q : Printed} → Prints before (numberLines (take (n + 1) words)) none q after
+      pub table-filled : {before after : List ℕ} {q : Printed}
+          → Prints before (numberLines (take (n + 1) words)) none q after
           → Prints before (answerText Table b i s n) (answerRefusal Table b i s n) q after
       table-filled t =
           answered-text (written Table b i s n) (answerReply Table b i s n) (table-reply e) (rw lines at t)
@@ -119,7 +124,8 @@ module _ (b : List ℕ) (i s f : ℕ) (r : Answer) (says : paper r ≡ criticalR
   unfolding answerReply
   critical-reply e = sym says ∙ ap paper e
 
-  pub critical-refused : {x : Refusal} {before after : List ℕ} {q : Printed} → r ≡ Refused x → Prints before (refusedLine x) (some x) q after
+  pub critical-refused : {x : Refusal} {before after : List ℕ} {q : Printed} → r ≡ Refused x
+      → Prints before (refusedLine x) (some x) q after
       → Prints before (answerText Critical b i s f) (answerRefusal Critical b i s f) q after
   critical-refused e = refused-text (written Critical b i s f) (answerReply Critical b i s f) (critical-reply e)
 
@@ -135,11 +141,13 @@ module _ (b : List ℕ) (i s f : ℕ) (r : Answer) (says : paper r ≡ criticalR
     critical-room =
         rw counted (enough _ 4096 (orElse-none (questionRefusal b i s f) _ (found .0) .1))
 
-    pairs : (words : List ℕ) → words ≡ criticalWords b i s f lent → pairLines (pairsIn number words) ≡ written Critical b i s f
+    pairs : (words : List ℕ) → words ≡ criticalWords b i s f lent
+        → pairLines (pairsIn number words) ≡ written Critical b i s f
     unfolding written
     pairs words p =
         let σ = sequenceOf b i s f in
-        let after : words ≡ inFront (wordsOf σ) lent = p ∙ ap (λ x. unlessRefused x (inFront (wordsOf σ) lent) lent) (found .0) in
+        let after : words ≡ inFront (wordsOf σ) lent =
+        p ∙ ap (λ x. unlessRefused x (inFront (wordsOf σ) lent) lent) (found .0) in
         ap pairLines (ap₂ pairsIn counted after ∙ words-pairs σ (drop (length (wordsOf σ)) lent))
 
     pub critical-filled : {before after : List ℕ} {q : Printed} (words : List ℕ) → words ≡ criticalWords b i s f lent
@@ -178,10 +186,14 @@ module _ (words : ℕ) (name machine from to : List ℕ) where
         known s f = ap₂ (λ x y. asksOf x y s f) k e
 
         pub no-start : none ≡ readNumber from → Nothing ≡ asks words name machine from to
-        no-start p = ap (λ x. asksOf (some kind) (some i) x (readNumber to)) p ∙ known (readNumber from) (readNumber to) ∙ five
+        no-start p =
+            ap (λ x. asksOf (some kind) (some i) x (readNumber to)) p
+            ∙ known (readNumber from) (readNumber to)
+            ∙ five
 
         module _ {s : ℕ} (p : some s ≡ readNumber from) where
-          told-end : {f : Option ℕ} → f ≡ readNumber to → asksOf (some kind) (some i) (some s) f ≡ asks words name machine from to
+          told-end : {f : Option ℕ} → f ≡ readNumber to
+              → asksOf (some kind) (some i) (some s) f ≡ asks words name machine from to
           told-end q = ap₂ (asksOf (some kind) (some i)) p q ∙ known (readNumber from) (readNumber to) ∙ five
 
           pub no-end : none ≡ readNumber to → Nothing ≡ asks words name machine from to
@@ -192,7 +204,8 @@ module _ (words : ℕ) (name machine from to : List ℕ) where
           this q = told-end q
 
   -- no second result satisfies the contract of `asked_by`
-  pub asked-by-unique : (r q : Asked) → r ≡ asks words name machine from to → q ≡ asks words name machine from to → r ≡ q
+  pub asked-by-unique : (r q : Asked) → r ≡ asks words name machine from to → q ≡ asks words name machine from to
+      → r ≡ q
   asked-by-unique r q e p = e ∙ sym p
 
 -- no second result and no second memory satisfy the contract of `ask`

@@ -68,8 +68,8 @@ fn kind_of(word: &[u8]) -> Name
     Name::Unknown
 }
 
-// Reads the words of a command line: five with the program's own, which are not lent, the name of a question, and the three
-// numbers of a machine and a window.
+// What the words of a command line ask: five of them with the program's own, of which these four are the name of a
+// question and the three numbers of a machine and a window.
 pub fn asked_by(words: usize, name: &[u8], machine: &[u8], from: &[u8], to: &[u8]) -> Asked
     ensures { λ r. ⌜ r ≡ asks words (now (name .entry)) (now (machine .entry)) (now (from .entry)) (now (to .entry)) ⌝ }
 {
@@ -107,7 +107,7 @@ fn print_figure(out: &mut [u8], answer: Answer) -> Printed
         (now (out .exit)) ⌝ }
 {
     match answer {
-        Answer::Value(figure) => report::answered(text::put_row(out, 0, figure, &[])),
+        Answer::Value(figure) => report::unrefused(text::put_row(out, 0, figure, &[])),
         Answer::Refused(refusal) => report::print_refused(out, refusal),
     }
 }
@@ -150,7 +150,7 @@ fn print_table(out: &mut [u8], sheet: &[u8], machine: u32, from: u32, length: u3
     let mut words = [0u32; 4096];
     let tabled = bounds::table(sheet, machine, from, length, &mut words);
     match tabled {
-        Tabled::Filled => report::answered(put_numbers(out, &words[..length as usize + 1])),
+        Tabled::Filled => report::unrefused(put_numbers(out, &words[..length as usize + 1])),
         Tabled::Refused(refusal) => report::print_refused(out, refusal),
     }
 }
@@ -166,7 +166,7 @@ fn print_critical(out: &mut [u8], sheet: &[u8], machine: u32, from: u32, to: u32
     match answer {
         Answer::Value(pairs) => {
             let next = text::put_row(out, 0, pairs, &[]);
-            report::answered(put_pairs(out, next, &words, pairs as usize))
+            report::unrefused(put_pairs(out, next, &words, pairs as usize))
         }
         Answer::Refused(refusal) => report::print_refused(out, refusal),
     }
@@ -194,15 +194,16 @@ fn print_answer(
     }
 }
 
-// Makes the text of `ask` for a question at the start of the lent bytes and answers its length, and the refusal that it
-// prints. Bytes past the text stay as they were; with fewer than 65,536 bytes lent nothing is written, and the length is 0.
+// Makes the text of `ask` for a question at the start of the lent bytes and answers its length, and the refusal that
+// it prints. Bytes past the text stay as they were; with fewer than 65,536 bytes lent nothing is written, and the
+// length is 0.
 pub fn ask(sheet: &[u8], question: Question, out: &mut [u8]) -> Printed
     ensures { λ r. ⌜ r .length ≡ printedLength 65536 (askText (now (sheet .entry)) question) (now (out .entry)) ⌝ }
     ensures { λ r. ⌜ r .refusal ≡ printedRefusal 65536 (askRefusal (now (sheet .entry)) question) (now (out .entry)) ⌝ }
     ensures { λ _. ⌜ now (out .exit) ≡ printed 65536 (askText (now (sheet .entry)) question) (now (out .entry)) ⌝ }
 {
     if out.len() < 65536 {
-        return report::answered(0);
+        return report::unrefused(0);
     }
     let kind = question.kind;
     print_answer(

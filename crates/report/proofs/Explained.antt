@@ -18,13 +18,24 @@ use Rattle.report.specs.Words.{sheetReason, questionReason, place}
 pub put-nothing : (before : List ℕ) (at : ℕ) → at ≤ length before → Put before at [] at before
 put-nothing before at l = rw add-zero at (put-begin before at l)
 
+-- a reason of at most 100 characters, for the number that a `match` has found
+pub reason-put : {before after : List ℕ} {at r n k : ℕ} (reason : ℕ → List ℕ) → n ≡ k → Put before at (reason k) r after
+    → length (reason k) ≤ 100 → Put before at (reason n) r after × (r ≤ at + 100)
+reason-put reason e p l = (rw e p, omega (arith, p .next))
+
+-- a number without a reason
+pub reason-nothing : {before : List ℕ} {at n : ℕ} (reason : ℕ → List ℕ) → reason n ≡ [] → at + 100 ≤ length before
+    → Put before at (reason n) at before × (at ≤ at + 100)
+reason-nothing {before} {at} reason e l = (rw e (put-nothing before at (omega arith)), omega arith)
+
 -- n is none of the numbers that a `match` has named
 abbrev Other : ℕ → Type 0 → ℕ → Type 0
 Other n others k = others × (n ≡ k → ⊥)
 
 -- a number that no rule has gives no reason
 pub no-sheet-reason : (n : ℕ)
-    → Other n (Other n (Other n (Other n (Other n (Other n (Other n (Other n (Other n (Unit {0}) 1) 2) 3) 4) 5) 6) 7) 8) 9
+    → Other n (Other n (Other n (Other n (Other n (Other n (Other n (Other n (Other n
+    (Unit {0}) 1) 2) 3) 4) 5) 6) 7) 8) 9
     → sheetReason n ≡ []
 unfolding sheetReason
 no-sheet-reason n h =

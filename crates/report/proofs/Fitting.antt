@@ -158,7 +158,7 @@ Promised room text x before r after =
     (r .length ≡ printedLength room text before)
     × ((r .refusal ≡ printedRefusal room x before) × (after ≡ printed room text before))
 
--- what `answered` gives
+-- what `unrefused` gives
 module _ {n : ℕ} {r : Printed} (e : (r .length ≡ n) × (r .refusal ≡ handed none)) where
   -- no refusal is handed back with an answer's text
   pub answer-prints : {before text after : List ℕ} → Put before 0 text n after → Prints before text none r after
@@ -197,7 +197,8 @@ pub printed-unique : (room : ℕ) (text before : List ℕ) (r q : ℕ) (after ot
 printed-unique room text before r q after other e p g s = (e ∙ sym g, p ∙ sym s)
 
 -- a text has one length, one refusal and one memory
-pub promised-unique : (room : ℕ) (text : List ℕ) (x : Option Refusal) (before : List ℕ) (r q : Printed) (after other : List ℕ)
+pub promised-unique : (room : ℕ) (text : List ℕ) (x : Option Refusal) (before : List ℕ) (r q : Printed)
+    (after other : List ℕ)
     → Promised room text x before r after → Promised room text x before q other → (r ≡ q) × (after ≡ other)
 promised-unique room text x before r q after other p s = (
   ap₂ (λ n y. record { length = n; refusal = y }) (p .0 ∙ sym (s .0)) (p .1 .0 ∙ sym (s .1 .0)),

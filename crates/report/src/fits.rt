@@ -20,7 +20,7 @@ use verdict::Verdict;
 use window::Answer;
 
 // A text that prints no refusal.
-pub fn answered(length: usize) -> Printed
+pub fn unrefused(length: usize) -> Printed
     ensures { λ r. ⌜ (r .length ≡ length) × (r .refusal ≡ handed none) ⌝ }
 {
     Printed {
@@ -117,15 +117,15 @@ fn put_accepted(out: &mut [u8], sheet: &[u8], machines: usize, h: u32) -> usize
     put_verdict(out, last, sheet)
 }
 
-// Makes the text of `fit` at the start of the lent bytes and answers its length, and the refusal that it prints. Bytes past
-// the text stay as they were; with fewer than 512 bytes lent nothing is written, and the length is 0.
+// Makes the text of `fit` at the start of the lent bytes and answers its length, and the refusal that it prints. Bytes
+// past the text stay as they were; with fewer than 512 bytes lent nothing is written, and the length is 0.
 pub fn fit(sheet: &[u8], out: &mut [u8]) -> Printed
     ensures { λ r. ⌜ r .length ≡ printedLength 512 (fitText (now (sheet .entry))) (now (out .entry)) ⌝ }
     ensures { λ r. ⌜ r .refusal ≡ printedRefusal 512 (refusalOf (now (sheet .entry))) (now (out .entry)) ⌝ }
     ensures { λ _. ⌜ now (out .exit) ≡ printed 512 (fitText (now (sheet .entry))) (now (out .entry)) ⌝ }
 {
     if out.len() < 512 {
-        return answered(0);
+        return unrefused(0);
     }
     let checked = sheet::check(sheet);
     match checked {
@@ -133,6 +133,6 @@ pub fn fit(sheet: &[u8], out: &mut [u8]) -> Printed
         Checked::Accepted {
             machines,
             hyperperiod,
-        } => answered(put_accepted(out, sheet, machines as usize, hyperperiod)),
+        } => unrefused(put_accepted(out, sheet, machines as usize, hyperperiod)),
     }
 }

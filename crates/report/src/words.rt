@@ -115,9 +115,9 @@ fn put_explanation(out: &mut [u8], program: &[u8], refusal: Refusal) -> usize
     text::put_byte(out, last, 10)
 }
 
-// Makes a line at the start of the lent bytes that says in words why and where the named program was refused, and answers
-// its length. Bytes past the line stay as they were; with fewer than 256 bytes lent beside those of the name nothing is
-// written, and the answer is 0.
+// Makes a line at the start of the lent bytes that says in words why and where the named program was refused, and
+// answers its length. Bytes past the line stay as they were; with fewer than 256 bytes lent beside those of the name
+// nothing is written, and the answer is 0.
 pub fn explain(program: &[u8], refusal: Refusal, out: &mut [u8]) -> usize
     ensures { λ r. ⌜ r ≡ printedLength (length (now (program .entry)) + 256)
         (explanation (now (program .entry)) refusal) (now (out .entry)) ⌝ }

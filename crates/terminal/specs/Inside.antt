@@ -6,6 +6,6 @@ use Rattle.terminal.specs.declared.Input.{Input}
 use Rattle.terminal.specs.declared.Input.the-variants.{Bytes, Failed}
 
 -- as many bytes as were read stand at the start of those lent
-abbrev pub Within : Input → List ℕ → Type 0
-Within (Bytes used) bytes = Counts used bytes
-Within Failed bytes = Unit {0}
+abbrev pub LiesIn : Input → List ℕ → Type 0
+LiesIn (Bytes used) bytes = Counts used bytes
+LiesIn Failed bytes = Unit {0}

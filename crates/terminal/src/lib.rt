@@ -1,19 +1,30 @@
 // The standard streams of the programs. No contract can say what is read or written; the gate runs it.
-ghost use Rattle.terminal.specs.Inside.{Within};
+ghost use mathlib.Core.Path.{_≡_};
+ghost use lib.ListN.{length};
+ghost use Rattle.terminal.specs.Inside.{LiesIn};
 use libc::STDERR_FILENO;
 use libc::STDIN_FILENO;
 use libc::STDOUT_FILENO;
 use sheet::Refusal;
 
-// What reading a sheet came to: so many bytes, at the start of those lent, or a read that failed, whatever came before it.
+// What reading a sheet came to: so many bytes, at the start of those lent, or a read that failed, whatever came
+// before it.
 pub enum Input {
     Bytes(usize),
     Failed,
 }
 
+// The room for a sheet, which has at most 2,124 bytes, and for one byte more, so that a longer input is seen to be too
+// long.
+pub fn sheet_room() -> [u8; 2125]
+    ensures { λ r. ⌜ 2125 ≡ length r ⌝ }
+{
+    [0; 2125]
+}
+
 // Reads standard input until it ends or the lent bytes are full.
 pub fn read_sheet(bytes: &mut [u8]) -> Input
-    ensures { λ r. ⌜ Within r (now (bytes .exit)) ⌝ }
+    ensures { λ r. ⌜ LiesIn r (now (bytes .exit)) ⌝ }
 {
     let mut done = 0;
     while done < bytes.len() {
@@ -31,7 +42,7 @@ pub fn read_sheet(bytes: &mut [u8]) -> Input
 
 // Reads once. At the end of the input no byte comes, and nothing has failed.
 fn read_some(bytes: &mut [u8]) -> Input
-    ensures { λ r. ⌜ Within r (now (bytes .exit)) ⌝ }
+    ensures { λ r. ⌜ LiesIn r (now (bytes .exit)) ⌝ }
 {
     let got = libc::read(STDIN_FILENO, bytes);
     if got < 0 {
@@ -45,7 +56,7 @@ pub fn say(line: &[u8]) {
     io::write_all(STDERR_FILENO, line);
 }
 
-// Prints a text on standard output, or says the line that is given for a failure; and says a refusal in words.
+// Prints a text on standard output, or says the line that is given for a failure; a refusal is said in words, too.
 pub fn print(program: &[u8], text: &[u8], failure: &[u8], refusal: Refusal) {
     if !io::write_all(STDOUT_FILENO, text) {
         say(failure);

@@ -2,6 +2,9 @@ use borrow.Author.Needs.{needs}
 use Rattle.ask.proofs.answer.Statement.{statement}
 use Rattle.ask.proofs.answer.Tie as tie
 
+sheet-room-requires : tie.Need-sheet-room-requires
+sheet-room-requires c κs = search needs
+
 slice-aggregate-read-sheet : tie.Need-slice-aggregate-read-sheet
 slice-aggregate-read-sheet c = search needs
 
@@ -43,6 +46,7 @@ pub answer-spec : {M : Type 1} → statement M
 answer-spec =
     tie.close
     (tie.spec
+    sheet-room-requires
     slice-aggregate-read-sheet
     read-sheet-requires
     enum-known-input

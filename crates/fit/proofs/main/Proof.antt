@@ -14,6 +14,9 @@ say-requires c κs = search needs
 returns : tie.Need-returns
 returns c = search needs
 
+sheet-room-requires : tie.Need-sheet-room-requires
+sheet-room-requires c κs = search needs
+
 slice-aggregate-read-sheet : tie.Need-slice-aggregate-read-sheet
 slice-aggregate-read-sheet c = search needs
 
@@ -59,6 +62,7 @@ main-spec =
     slice-aggregate-say
     say-requires
     returns
+    sheet-room-requires
     slice-aggregate-read-sheet
     read-sheet-requires
     enum-known-input

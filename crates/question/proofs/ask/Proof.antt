@@ -7,14 +7,15 @@ use borrow.Author.Needs.{needs}
 use Rattle.question.proofs.ask.Statement.{statement}
 use Rattle.question.proofs.ask.Tie as tie
 
-answered-requires : tie.Need-answered-requires
-answered-requires c κs = search needs
+unrefused-requires : tie.Need-unrefused-requires
+unrefused-requires c κs = search needs
 
 returns : tie.Need-returns
 returns c =
     let args = c .before .before .before .before .args in
-    nothing-prints (c .answered .ensures) 65536 (askText (now (args .sheet)) (args .question)) (now (args .out))
-    (askRefusal (now (args .sheet)) (args .question)) refl (c .before .if1 .taken)
+    let b = now (args .sheet) in
+    nothing-prints (c .unrefused .ensures) 65536 (askText b (args .question)) (now (args .out))
+    (askRefusal b (args .question)) refl (c .before .if1 .taken)
 
 print-answer-requires : tie.Need-print-answer-requires
 print-answer-requires c κs = search needs
@@ -26,9 +27,10 @@ returns-2 : tie.Need-returns-2
 returns-2 c =
     let put = c .before .before in
     let args = put .before .before .before .before .before .args in
-    prints-so {text = askText (now (args .sheet)) (args .question)} {x = askRefusal (now (args .sheet)) (args .question)} 65536
+    let b = now (args .sheet) in
+    prints-so {text = askText b (args .question)} {x = askRefusal b (args .question)} 65536
     (omega (arith, put .before .before .if1 .left)) (put .print-answer .ensures)
 
 pub ask-spec : {M : Type 1} → statement M
 ask-spec =
-    tie.close (tie.spec answered-requires returns print-answer-requires same-length returns-2)
+    tie.close (tie.spec unrefused-requires returns print-answer-requires same-length returns-2)

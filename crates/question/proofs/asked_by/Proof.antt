@@ -7,7 +7,8 @@ use Rattle.question.proofs.asked_by.Tie as tie
 returns : tie.Need-returns
 returns c =
     let args = c .before .before .before .before .before .args in
-    other-count (args .words) (now (args .name)) (now (args .machine)) (now (args .from)) (now (args .to)) (c .if1 .taken)
+    other-count (args .words) (now (args .name)) (now (args .machine)) (now (args .from)) (now (args .to))
+    (c .if1 .taken)
 
 kind-of-requires : tie.Need-kind-of-requires
 kind-of-requires c κs = search needs
@@ -23,8 +24,8 @@ returns-2 c =
     let read = c .before .before in
     let five = read .before in
     let args = five .before .before .before .before .before .args in
-    no-name (args .words) (now (args .name)) (now (args .machine)) (now (args .from)) (now (args .to)) (five .if1 .left)
-    (names (read .kind-of .ensures) (c .enum-told .given .1))
+    no-name (args .words) (now (args .name)) (now (args .machine)) (now (args .from)) (now (args .to))
+    (five .if1 .left) (names (read .kind-of .ensures) (c .enum-told .given .1))
 
 read-number-requires : tie.Need-read-number-requires
 read-number-requires c κs = search needs
@@ -42,8 +43,8 @@ returns-3 c =
     let kind = names (known .before .before .before .kind-of .ensures) (known .before .known .given .1) in
     let five = known .before .before .before .before in
     let args = five .before .before .before .before .before .args in
-    no-machine (args .words) (now (args .name)) (now (args .machine)) (now (args .from)) (now (args .to)) (five .if1 .left)
-    kind (reads (read .read-number .ensures) (c .enum-told2 .given .1))
+    no-machine (args .words) (now (args .name)) (now (args .machine)) (now (args .from)) (now (args .to))
+    (five .if1 .left) kind (reads (read .read-number .ensures) (c .enum-told2 .given .1))
 
 read-number-requires-2 : tie.Need-read-number-requires-2
 read-number-requires-2 c κs = search needs
@@ -62,9 +63,10 @@ returns-4 c =
     let kind = names (known .before .before .before .kind-of .ensures) (known .before .known .given .1) in
     let five = known .before .before .before .before in
     let args = five .before .before .before .before .before .args in
-    let machine = reads (number .before .before .before .read-number .ensures) (number .before .number .given .1) in
-    no-start (args .words) (now (args .name)) (now (args .machine)) (now (args .from)) (now (args .to)) (five .if1 .left)
-    kind machine (reads (read .read-number2 .ensures) (c .enum-told3 .given .1))
+    let machine =
+    reads (number .before .before .before .read-number .ensures) (number .before .number .given .1) in
+    no-start (args .words) (now (args .name)) (now (args .machine)) (now (args .from)) (now (args .to))
+    (five .if1 .left) kind machine (reads (read .read-number2 .ensures) (c .enum-told3 .given .1))
 
 read-number-requires-3 : tie.Need-read-number-requires-3
 read-number-requires-3 c κs = search needs
@@ -84,10 +86,11 @@ returns-5 c =
     let kind = names (known .before .before .before .kind-of .ensures) (known .before .known .given .1) in
     let five = known .before .before .before .before in
     let args = five .before .before .before .before .before .args in
-    let machine = reads (number .before .before .before .read-number .ensures) (number .before .number .given .1) in
+    let machine =
+    reads (number .before .before .before .read-number .ensures) (number .before .number .given .1) in
     let from = reads (start .before .before .before .read-number2 .ensures) (start .before .start .given .1) in
-    no-end (args .words) (now (args .name)) (now (args .machine)) (now (args .from)) (now (args .to)) (five .if1 .left)
-    kind machine from (reads (read .read-number3 .ensures) (c .enum-told4 .given .1))
+    no-end (args .words) (now (args .name)) (now (args .machine)) (now (args .from)) (now (args .to))
+    (five .if1 .left) kind machine from (reads (read .read-number3 .ensures) (c .enum-told4 .given .1))
 
 returns-6 : tie.Need-returns-6
 returns-6 c =
@@ -97,10 +100,12 @@ returns-6 c =
     let kind = names (known .before .before .before .kind-of .ensures) (known .before .known .given .1) in
     let five = known .before .before .before .before in
     let args = five .before .before .before .before .before .args in
-    let machine = reads (number .before .before .before .read-number .ensures) (number .before .number .given .1) in
+    let machine =
+    reads (number .before .before .before .read-number .ensures) (number .before .number .given .1) in
     let from = reads (start .before .before .before .read-number2 .ensures) (start .before .start .given .1) in
-    this (args .words) (now (args .name)) (now (args .machine)) (now (args .from)) (now (args .to)) (five .if1 .left)
-    kind machine from (reads (c .before .before .before .read-number3 .ensures) (c .before .end .given .1))
+    let to = reads (c .before .before .before .read-number3 .ensures) (c .before .end .given .1) in
+    this (args .words) (now (args .name)) (now (args .machine)) (now (args .from)) (now (args .to))
+    (five .if1 .left) kind machine from to
 
 pub asked-by-spec : {M : Type 1} → statement M
 asked-by-spec =

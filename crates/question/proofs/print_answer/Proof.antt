@@ -49,7 +49,8 @@ returns : tie.Need-returns
 unfolding answerReply written
 returns c =
     let put = c .before .before in
-    rw (put .before .before .before .enum-told .given .1) (rw (put .before .request .ensures .0) at (put .print-figure .ensures))
+    let figure = rw (put .before .request .ensures .0) at (put .print-figure .ensures) in
+    rw (put .before .before .before .enum-told .given .1) figure
 
 same-length-2 : tie.Need-same-length-2
 same-length-2 c = search needs
@@ -58,7 +59,8 @@ returns-2 : tie.Need-returns-2
 unfolding answerReply written
 returns-2 c =
     let put = c .before .before in
-    rw (put .before .before .before .enum-told2 .given .1) (rw (put .before .demand .ensures .0) at (put .print-figure2 .ensures))
+    let figure = rw (put .before .demand .ensures .0) at (put .print-figure2 .ensures) in
+    rw (put .before .before .before .enum-told2 .given .1) figure
 
 same-length-3 : tie.Need-same-length-3
 same-length-3 c = search needs
@@ -67,7 +69,8 @@ returns-3 : tie.Need-returns-3
 unfolding answerReply written
 returns-3 c =
     let put = c .before .before in
-    rw (put .before .before .before .enum-told3 .given .1) (rw (put .before .plain .ensures .0) at (put .print-figure3 .ensures))
+    let figure = rw (put .before .plain .ensures .0) at (put .print-figure3 .ensures) in
+    rw (put .before .before .before .enum-told3 .given .1) figure
 
 same-length-4 : tie.Need-same-length-4
 same-length-4 c = search needs

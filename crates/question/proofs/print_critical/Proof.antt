@@ -33,12 +33,14 @@ put-pairs-requires c κs =
     let known = c .before .before .before .before .before .before .before .before in
     let found = known .before .before .before in
     let args = found .before .before .before .before .args in
-    let room = critical-room (now (args .sheet)) (args .machine) (args .from) (args .to) _ (found .critical .ensures .0) _ (known .answer .given .1) in
-    let put = c .before .before .before .before in
-    (omega (arith, room), omega (arith, room, found .before .before .before .before .pre, put .put-row .ensures .0 .size, put .put-row .ensures .1))
+    let says = found .critical .ensures .0 in
+    let value = known .answer .given .1 in
+    let room = critical-room (now (args .sheet)) (args .machine) (args .from) (args .to) _ says _ value in
+    let put = c .before .before .before .before .put-row .ensures in
+    (omega (arith, room), omega (arith, room, found .before .before .before .before .pre, put .0 .size, put .1))
 
-answered-requires : tie.Need-answered-requires
-answered-requires c κs = search needs
+unrefused-requires : tie.Need-unrefused-requires
+unrefused-requires c κs = search needs
 
 enum-known-answer-2 : tie.Need-enum-known-answer-2
 enum-known-answer-2 c = search needs
@@ -57,8 +59,10 @@ returns c =
     let found = known .before .before .before in
     let args = found .before .before .before .before .args in
     let whole = put-then (put .put-row .ensures .0) (lines .put-pairs .ensures) in
-    critical-filled (now (args .sheet)) (args .machine) (args .from) (args .to) _ (found .critical .ensures .0) _ (known .answer .given .1)
-    _ (found .critical .ensures .1 .0) (answer-prints (c .answered .ensures) whole)
+    let says = found .critical .ensures .0 in
+    let value = known .answer .given .1 in
+    critical-filled (now (args .sheet)) (args .machine) (args .from) (args .to) _ says _ value
+    _ (found .critical .ensures .1 .0) (answer-prints (c .unrefused .ensures) whole)
 
 same-length-2 : tie.Need-same-length-2
 same-length-2 c = search needs
@@ -84,7 +88,7 @@ print-critical-spec =
     slice-aggregate-put-pairs
     cast-put-pairs
     put-pairs-requires
-    answered-requires
+    unrefused-requires
     enum-known-answer-2
     print-refused-requires
     same-length

@@ -13,8 +13,8 @@ slice-aggregate-put-row c = search needs
 put-row-requires : tie.Need-put-row-requires
 put-row-requires c κs = search needs
 
-answered-requires : tie.Need-answered-requires
-answered-requires c κs = search needs
+unrefused-requires : tie.Need-unrefused-requires
+unrefused-requires c κs = search needs
 
 enum-known-answer-2 : tie.Need-enum-known-answer-2
 enum-known-answer-2 c = search needs
@@ -28,7 +28,8 @@ same-length c = search needs
 returns : tie.Need-returns
 returns c =
     let put = c .before .before .before in
-    rw (put .before .before .before .before .answer .given .1) (answer-prints (c .answered .ensures) (figure-put _ (put .put-row .ensures .0)))
+    let figure = answer-prints (c .unrefused .ensures) (figure-put _ (put .put-row .ensures .0)) in
+    rw (put .before .before .before .before .answer .given .1) figure
 
 same-length-2 : tie.Need-same-length-2
 same-length-2 c = search needs
@@ -45,7 +46,7 @@ print-figure-spec =
     enum-known-answer
     slice-aggregate-put-row
     put-row-requires
-    answered-requires
+    unrefused-requires
     enum-known-answer-2
     print-refused-requires
     same-length

@@ -23,9 +23,11 @@ array-share-prefix-words c =
     let told = c .before in
     let table = told .before .before .before in
     let args = table .before .before .before .before .args in
+    let says = table .table .ensures .0 in
+    let filled = told .enum-told .given .1 in
     omega (
       arith,
-      table-room (now (args .sheet)) (args .machine) (args .from) (args .length) _ (table .table .ensures .0) (told .enum-told .given .1),
+      table-room (now (args .sheet)) (args .machine) (args .from) (args .length) _ says filled,
     )
 
 slice-aggregate-put-numbers : tie.Need-slice-aggregate-put-numbers
@@ -33,7 +35,9 @@ slice-aggregate-put-numbers c =
     let told = c .before .before in
     let table = told .before .before .before in
     let args = table .before .before .before .before .args in
-    table-taken (now (args .sheet)) (args .machine) (args .from) (args .length) _ (table .table .ensures .0) (told .enum-told .given .1)
+    let says = table .table .ensures .0 in
+    let filled = told .enum-told .given .1 in
+    table-taken (now (args .sheet)) (args .machine) (args .from) (args .length) _ says filled
     _ (table .table .ensures .1 .0)
 
 put-numbers-requires : tie.Need-put-numbers-requires
@@ -41,16 +45,18 @@ put-numbers-requires c κs =
     let told = c .before .before in
     let table = told .before .before .before in
     let args = table .before .before .before .before .args in
+    let says = table .table .ensures .0 in
+    let filled = told .enum-told .given .1 in
     omega (
       arith,
       table .before .before .before .before .pre,
-      table-room (now (args .sheet)) (args .machine) (args .from) (args .length) _ (table .table .ensures .0) (told .enum-told .given .1),
-      table-taken (now (args .sheet)) (args .machine) (args .from) (args .length) _ (table .table .ensures .0) (told .enum-told .given .1)
+      table-room (now (args .sheet)) (args .machine) (args .from) (args .length) _ says filled,
+      table-taken (now (args .sheet)) (args .machine) (args .from) (args .length) _ says filled
           _ (table .table .ensures .1 .0),
     )
 
-answered-requires : tie.Need-answered-requires
-answered-requires c κs = search needs
+unrefused-requires : tie.Need-unrefused-requires
+unrefused-requires c κs = search needs
 
 enum-known-tabled : tie.Need-enum-known-tabled
 enum-known-tabled c = search needs
@@ -67,8 +73,10 @@ returns c =
     let told = put .before .before .before in
     let table = told .before .before .before in
     let args = table .before .before .before .before .args in
-    table-filled (now (args .sheet)) (args .machine) (args .from) (args .length) _ (table .table .ensures .0) (told .enum-told .given .1)
-    _ (table .table .ensures .1 .0) (answer-prints (c .answered .ensures) (put .put-numbers .ensures))
+    let says = table .table .ensures .0 in
+    let filled = told .enum-told .given .1 in
+    table-filled (now (args .sheet)) (args .machine) (args .from) (args .length) _ says filled
+    _ (table .table .ensures .1 .0) (answer-prints (c .unrefused .ensures) (put .put-numbers .ensures))
 
 same-length-2 : tie.Need-same-length-2
 same-length-2 c = search needs
@@ -93,7 +101,7 @@ print-table-spec =
     array-share-prefix-words
     slice-aggregate-put-numbers
     put-numbers-requires
-    answered-requires
+    unrefused-requires
     enum-known-tabled
     print-refused-requires
     same-length

@@ -9,14 +9,14 @@ use borrow.Author.Needs.{needs}
 use Rattle.report.proofs.fits.fit.Statement.{statement}
 use Rattle.report.proofs.fits.fit.Tie as tie
 
-answered-requires : tie.Need-answered-requires
-answered-requires c κs = search needs
+unrefused-requires : tie.Need-unrefused-requires
+unrefused-requires c κs = search needs
 
 returns : tie.Need-returns
 returns c =
     let args = c .before .before .before .before .args in
-    nothing-prints (c .answered .ensures) 512 (fitText (now (args .sheet))) (now (args .out)) (refusalOf (now (args .sheet)))
-    refl (c .before .if1 .taken)
+    let b = now (args .sheet) in
+    nothing-prints (c .unrefused .ensures) 512 (fitText b) (now (args .out)) (refusalOf b) refl (c .before .if1 .taken)
 
 check-requires : tie.Need-check-requires
 check-requires c κs = search needs
@@ -40,8 +40,8 @@ put-accepted-requires c κs =
     let (kept, count, period) = accepted-so _ (check .check .ensures) (known .checked2 .given .1) in
     (record { admitted = kept; period = period }, count, omega (arith, check .before .if1 .left))
 
-answered-requires-2 : tie.Need-answered-requires-2
-answered-requires-2 c κs = search needs
+unrefused-requires-2 : tie.Need-unrefused-requires-2
+unrefused-requires-2 c κs = search needs
 
 same-length : tie.Need-same-length
 same-length c = search needs
@@ -64,13 +64,13 @@ returns-3 c =
     let check = known .before .before in
     let (kept, _, _) = accepted-so _ (check .check .ensures) (known .checked2 .given .1) in
     prints-so 512 (omega (arith, check .before .if1 .left))
-    (accepted-prints _ kept (answer-prints (c .answered2 .ensures) (put .put-accepted .ensures)))
+    (accepted-prints _ kept (answer-prints (c .unrefused2 .ensures) (put .put-accepted .ensures)))
 
 pub fit-spec : {M : Type 1} → statement M
 fit-spec =
     tie.close
     (tie.spec
-    answered-requires
+    unrefused-requires
     returns
     check-requires
     enum-known-checked
@@ -78,7 +78,7 @@ fit-spec =
     enum-known-checked-2
     cast-put-accepted
     put-accepted-requires
-    answered-requires-2
+    unrefused-requires-2
     same-length
     returns-2
     same-length-2

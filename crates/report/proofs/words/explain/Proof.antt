@@ -31,7 +31,8 @@ returns-3 : tie.Need-returns-3
 returns-3 c =
     let put = c .before .before in
     let program = put .before .before .before .before .before .before .args .program in
-    printed-so (length (now program) + 256) (omega (arith, put .before .before .if2 .left)) (put .put-explanation .ensures)
+    let room = length (now program) + 256 in
+    printed-so room (omega (arith, put .before .before .if2 .left)) (put .put-explanation .ensures)
 
 pub explain-spec : {M : Type 1} → statement M
 explain-spec =

@@ -49,7 +49,8 @@ returns c =
     let named = refused .before .before .before .before .before in
     let line = put-then (named .put-bytes .ensures) (refused .put-bytes2 .ensures) in
     let number = put-then (put-then line (under .put-spaced .ensures .0)) (colon .put-bytes3 .ensures) in
-    put-then (put-then (put-then number (reason .put-reason .ensures .0)) (place .put-place .ensures .0)) (last .put-byte .ensures)
+    let why = put-then number (reason .put-reason .ensures .0) in
+    put-then (put-then why (place .put-place .ensures .0)) (last .put-byte .ensures)
 
 pub put-explanation-spec : {M : Type 1} → statement M
 put-explanation-spec =

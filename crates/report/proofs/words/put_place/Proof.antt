@@ -10,13 +10,15 @@ returns : tie.Need-returns
 returns c =
     let start = c .before .before in
     let args = start .args in
-    (rw (no-place-below (args .refusal) (c .if1 .taken)) (put-nothing (now (args .out)) (args .at) (omega (arith, start .pre))), omega arith)
+    let nothing = put-nothing (now (args .out)) (args .at) (omega (arith, start .pre)) in
+    (rw (no-place-below (args .refusal) (c .if1 .taken)) nothing, omega arith)
 
 returns-2 : tie.Need-returns-2
 returns-2 c =
     let start = c .before .before .before in
     let args = start .args in
-    (rw (no-place-above (args .refusal) (c .if2 .taken)) (put-nothing (now (args .out)) (args .at) (omega (arith, start .pre))), omega arith)
+    let nothing = put-nothing (now (args .out)) (args .at) (omega (arith, start .pre)) in
+    (rw (no-place-above (args .refusal) (c .if2 .taken)) nothing, omega arith)
 
 slice-aggregate-put-bytes : tie.Need-slice-aggregate-put-bytes
 slice-aggregate-put-bytes c = search needs

@@ -1,7 +1,6 @@
-use denote.Ref.{now}
 use native.Mathlib.Omega.{arith}
 use Rattle.report.specs.Words.{questionReason}
-use Rattle.report.proofs.Explained.{put-nothing, no-question-reason}
+use Rattle.report.proofs.Explained.{reason-put, reason-nothing, no-question-reason}
 use borrow.Author.Needs.{needs}
 use Rattle.report.proofs.words.put_question_reason.Statement.{statement}
 use Rattle.report.proofs.words.put_question_reason.Tie as tie
@@ -37,7 +36,7 @@ returns : tie.Need-returns
 unfolding questionReason
 returns c =
     let put = c .before .before in
-    (rw (put .before .before .before .match .keys1) (put .put-bytes .ensures), omega (arith, put .put-bytes .ensures .next))
+    reason-put questionReason (put .before .before .before .match .keys1) (put .put-bytes .ensures) (omega arith)
 
 same-length-2 : tie.Need-same-length-2
 same-length-2 c = search needs
@@ -46,7 +45,7 @@ returns-2 : tie.Need-returns-2
 unfolding questionReason
 returns-2 c =
     let put = c .before .before in
-    (rw (put .before .before .before .match .keys2) (put .put-bytes2 .ensures), omega (arith, put .put-bytes2 .ensures .next))
+    reason-put questionReason (put .before .before .before .match .keys2) (put .put-bytes2 .ensures) (omega arith)
 
 same-length-3 : tie.Need-same-length-3
 same-length-3 c = search needs
@@ -55,7 +54,7 @@ returns-3 : tie.Need-returns-3
 unfolding questionReason
 returns-3 c =
     let put = c .before .before in
-    (rw (put .before .before .before .match .keys3) (put .put-bytes3 .ensures), omega (arith, put .put-bytes3 .ensures .next))
+    reason-put questionReason (put .before .before .before .match .keys3) (put .put-bytes3 .ensures) (omega arith)
 
 same-length-4 : tie.Need-same-length-4
 same-length-4 c = search needs
@@ -64,13 +63,12 @@ returns-4 : tie.Need-returns-4
 unfolding questionReason
 returns-4 c =
     let put = c .before .before in
-    (rw (put .before .before .before .match .keys4) (put .put-bytes4 .ensures), omega (arith, put .put-bytes4 .ensures .next))
+    reason-put questionReason (put .before .before .before .match .keys4) (put .put-bytes4 .ensures) (omega arith)
 
 returns-5 : tie.Need-returns-5
 returns-5 c =
-    let args = c .before .before .args in
     let start = c .before .before in
-    (rw (no-question-reason (args .number) (c .match .rest)) (put-nothing (now (args .out)) (args .at) (omega (arith, start .pre))), omega arith)
+    reason-nothing questionReason (no-question-reason (start .args .number) (c .match .rest)) (start .pre)
 
 pub put-question-reason-spec : {M : Type 1} → statement M
 put-question-reason-spec =

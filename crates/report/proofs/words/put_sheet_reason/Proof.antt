@@ -1,7 +1,6 @@
-use denote.Ref.{now}
 use native.Mathlib.Omega.{arith}
 use Rattle.report.specs.Words.{sheetReason}
-use Rattle.report.proofs.Explained.{put-nothing, no-sheet-reason}
+use Rattle.report.proofs.Explained.{reason-put, reason-nothing, no-sheet-reason}
 use borrow.Author.Needs.{needs}
 use Rattle.report.proofs.words.put_sheet_reason.Statement.{statement}
 use Rattle.report.proofs.words.put_sheet_reason.Tie as tie
@@ -67,7 +66,7 @@ returns : tie.Need-returns
 unfolding sheetReason
 returns c =
     let put = c .before .before in
-    (rw (put .before .before .before .match .keys1) (put .put-bytes .ensures), omega (arith, put .put-bytes .ensures .next))
+    reason-put sheetReason (put .before .before .before .match .keys1) (put .put-bytes .ensures) (omega arith)
 
 same-length-2 : tie.Need-same-length-2
 same-length-2 c = search needs
@@ -76,7 +75,7 @@ returns-2 : tie.Need-returns-2
 unfolding sheetReason
 returns-2 c =
     let put = c .before .before in
-    (rw (put .before .before .before .match .keys2) (put .put-bytes2 .ensures), omega (arith, put .put-bytes2 .ensures .next))
+    reason-put sheetReason (put .before .before .before .match .keys2) (put .put-bytes2 .ensures) (omega arith)
 
 same-length-3 : tie.Need-same-length-3
 same-length-3 c = search needs
@@ -85,7 +84,7 @@ returns-3 : tie.Need-returns-3
 unfolding sheetReason
 returns-3 c =
     let put = c .before .before in
-    (rw (put .before .before .before .match .keys3) (put .put-bytes3 .ensures), omega (arith, put .put-bytes3 .ensures .next))
+    reason-put sheetReason (put .before .before .before .match .keys3) (put .put-bytes3 .ensures) (omega arith)
 
 same-length-4 : tie.Need-same-length-4
 same-length-4 c = search needs
@@ -94,7 +93,7 @@ returns-4 : tie.Need-returns-4
 unfolding sheetReason
 returns-4 c =
     let put = c .before .before in
-    (rw (put .before .before .before .match .keys4) (put .put-bytes4 .ensures), omega (arith, put .put-bytes4 .ensures .next))
+    reason-put sheetReason (put .before .before .before .match .keys4) (put .put-bytes4 .ensures) (omega arith)
 
 same-length-5 : tie.Need-same-length-5
 same-length-5 c = search needs
@@ -103,7 +102,7 @@ returns-5 : tie.Need-returns-5
 unfolding sheetReason
 returns-5 c =
     let put = c .before .before in
-    (rw (put .before .before .before .match .keys5) (put .put-bytes5 .ensures), omega (arith, put .put-bytes5 .ensures .next))
+    reason-put sheetReason (put .before .before .before .match .keys5) (put .put-bytes5 .ensures) (omega arith)
 
 same-length-6 : tie.Need-same-length-6
 same-length-6 c = search needs
@@ -112,7 +111,7 @@ returns-6 : tie.Need-returns-6
 unfolding sheetReason
 returns-6 c =
     let put = c .before .before in
-    (rw (put .before .before .before .match .keys6) (put .put-bytes6 .ensures), omega (arith, put .put-bytes6 .ensures .next))
+    reason-put sheetReason (put .before .before .before .match .keys6) (put .put-bytes6 .ensures) (omega arith)
 
 same-length-7 : tie.Need-same-length-7
 same-length-7 c = search needs
@@ -121,7 +120,7 @@ returns-7 : tie.Need-returns-7
 unfolding sheetReason
 returns-7 c =
     let put = c .before .before in
-    (rw (put .before .before .before .match .keys7) (put .put-bytes7 .ensures), omega (arith, put .put-bytes7 .ensures .next))
+    reason-put sheetReason (put .before .before .before .match .keys7) (put .put-bytes7 .ensures) (omega arith)
 
 same-length-8 : tie.Need-same-length-8
 same-length-8 c = search needs
@@ -130,7 +129,7 @@ returns-8 : tie.Need-returns-8
 unfolding sheetReason
 returns-8 c =
     let put = c .before .before in
-    (rw (put .before .before .before .match .keys8) (put .put-bytes8 .ensures), omega (arith, put .put-bytes8 .ensures .next))
+    reason-put sheetReason (put .before .before .before .match .keys8) (put .put-bytes8 .ensures) (omega arith)
 
 same-length-9 : tie.Need-same-length-9
 same-length-9 c = search needs
@@ -139,13 +138,12 @@ returns-9 : tie.Need-returns-9
 unfolding sheetReason
 returns-9 c =
     let put = c .before .before in
-    (rw (put .before .before .before .match .keys9) (put .put-bytes9 .ensures), omega (arith, put .put-bytes9 .ensures .next))
+    reason-put sheetReason (put .before .before .before .match .keys9) (put .put-bytes9 .ensures) (omega arith)
 
 returns-10 : tie.Need-returns-10
 returns-10 c =
-    let args = c .before .before .args in
     let start = c .before .before in
-    (rw (no-sheet-reason (args .number) (c .match .rest)) (put-nothing (now (args .out)) (args .at) (omega (arith, start .pre))), omega arith)
+    reason-nothing sheetReason (no-sheet-reason (start .args .number) (c .match .rest)) (start .pre)
 
 pub put-sheet-reason-spec : {M : Type 1} → statement M
 put-sheet-reason-spec =
