@@ -20,8 +20,8 @@ fn main() -> ExitCode {
     let words = std::env::args_os().skip(1);
     let words: Vec<String> = words.map(|w| w.to_string_lossy().into()).collect();
     match words.first().map(String::as_str) {
-        Some("fit") => leave(fit(&words[1..])),
-        Some("ask") => leave(ask(&words[1..])),
+        Some("fit") => leave("fit", fit(&words[1..])),
+        Some("ask") => leave("ask", ask(&words[1..])),
         _ => leave_answer(answer(&words)),
     }
 }
@@ -43,14 +43,15 @@ fn leave_answer(answer: Option<Result<String, String>>) -> ExitCode {
     }
 }
 
-fn leave(printed: Printed) -> ExitCode {
+fn leave(program: &str, printed: Printed) -> ExitCode {
     eprint!("{}", printed.error);
     let mut output = io::stdout();
     let written = output.write_all(printed.output.as_bytes());
-    match written.and_then(|()| output.flush()) {
-        Ok(()) => ExitCode::from(printed.status),
-        Err(_) => ExitCode::from(Printed::ANYTHING_ELSE),
+    if written.and_then(|()| output.flush()).is_ok() {
+        return ExitCode::from(printed.status);
     }
+    eprintln!("{program}: cannot write standard output");
+    ExitCode::from(Printed::ANYTHING_ELSE)
 }
 
 fn fit(words: &[String]) -> Printed {
