@@ -43,10 +43,6 @@ fn print(sheet: &[u8], question: Question) {
     let mut out = [0u8; 65536];
     let printed = question::ask(sheet, question, &mut out);
     let length = printed.length;
-    terminal::print(
-        b"ask",
-        &out[..length],
-        b"ask: cannot write standard output\n",
-        printed.refusal,
-    );
+    terminal::print(&out[..length], b"ask: cannot write standard output\n");
+    terminal::say_refusal(b"ask", printed.refusal);
 }

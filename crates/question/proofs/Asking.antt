@@ -1,12 +1,12 @@
 -- The text of `ask`, from the answers of the calls that it prints.
 -- Assumes nothing.
-use Prim.Native.Nat.{ℕ, suc, _+_, _*_, _≤_, _<_}
+use Prim.Native.Nat.{ℕ, _+_, _*_, _≤_}
 use mathlib.Core.Path.{_≡_, refl, sym, _∙_, ap, ap₂}
-use mathlib.Core.Bool.{Bool, true, false, cond}
+use mathlib.Core.Bool.{Bool, true}
 use mathlib.Core.List.{List, [], _∷_, _++_, append-nil}
 use mathlib.Core.Option.{Option, none, some}
 use native.Mathlib.Omega.{arith}
-use lib.ListN.{length, take, drop, replicate, length-replicate}
+use lib.ListN.{length, take, drop}
 use lib.Seq.{take-at}
 use borrow.Author.Tests.{leb-true, eq-eqb, ne-eqb}
 use Rattle.model.specs.Machine.{machineOf}
@@ -28,9 +28,7 @@ use Rattle.bounds.proofs.Filling.{listed-length}
 use Rattle.critical.specs.Critical.{sequenceOf, wordsOf, criticalRefusal, criticalReply, criticalWords, pairsIn}
 use Rattle.critical.proofs.Words.{words-pairs}
 use Rattle.text.specs.Text.{row}
-use Rattle.text.specs.declared.Number.{Number}
-use Rattle.text.specs.Inside.{Put, told}
-use Rattle.text.proofs.Laws.{put-then}
+use Rattle.text.specs.Inside.{Put}
 use Rattle.text.specs.Text.{readNumber}
 use Rattle.report.specs.declared.Printed.{Printed}
 use Rattle.report.specs.Fit.{refusedLine}
@@ -41,10 +39,8 @@ use Rattle.question.specs.declared.Kind.the-variants.{Table, Critical}
 use Rattle.question.specs.declared.Question.{Question}
 use Rattle.question.specs.declared.Asked.{Asked}
 use Rattle.question.specs.declared.Asked.the-variants.{This, Nothing}
-use Rattle.question.specs.declared.Name.{Name}
 use Rattle.question.specs.Ask.{kindOf, asksOf, asks, numberLines, pairLines, replyText, refusalIn, lent}
 use Rattle.question.specs.Ask.{answerReply, written, answerText, answerRefusal, askText, askRefusal}
-use Rattle.question.specs.Inside.{named}
 use Rattle.question.proofs.Lines.{number-alone, no-numbers}
 
 -- the name of a question, as it is compared
@@ -157,13 +153,9 @@ module _ (b : List ℕ) (i s f : ℕ) (r : Answer) (says : paper r ≡ criticalR
         answered-text (written Critical b i s f) (answerReply Critical b i s f) (critical-reply e)
         (rw (← number-alone number, pairs words p) at t)
 
--- what a word says, as it was read
-pub reads : {r x : Number} {said : Option ℕ} → told r ≡ said → r ≡ x → told x ≡ said
-reads says e = sym (ap told e) ∙ says
-
--- what a word names, as it was read
-pub names : {r x : Name} {said : Option Kind} → named r ≡ said → r ≡ x → named x ≡ said
-names says e = sym (ap named e) ∙ says
+-- what a word says or names, by the case in which it was read
+pub as-read : {A B : Type 0} (says : A → B) {r x : A} {said : B} → says r ≡ said → r ≡ x → says x ≡ said
+as-read says p e = sym (ap says e) ∙ p
 
 -- what the words ask, by what each of them says
 module _ (words : ℕ) (name machine from to : List ℕ) where

@@ -4,7 +4,6 @@ use Prim.Native.Nat.{ℕ, zero, suc, _+_, _*_, _≤_, _<_}
 use mathlib.Core.Path.{_≡_, refl, sym, _∙_, ap}
 use mathlib.Core.List.{List, [], _∷_, _++_, append-assoc, append-nil}
 use native.Mathlib.Omega.{arith}
-use native.Mathlib.Nat.{add-zero}
 use native.Mathlib.Numerals.{add-one}
 use lib.ListN.{length, getD, take, drop}
 use lib.Seq.{take-suc, take-all, getD-drop}
@@ -12,7 +11,7 @@ use Rattle.model.specs.Legal.{Pair}
 use Rattle.model.specs.Reckon.{pair}
 use Rattle.text.specs.Inside.{Put}
 use Rattle.text.specs.Text.{row}
-use Rattle.text.proofs.Laws.{put-then, put-begin}
+use Rattle.text.proofs.Laws.{put-then, put-nothing}
 use Rattle.critical.specs.Critical.{pairsIn}
 use Rattle.question.specs.Ask.{numberLines, pairLines}
 
@@ -44,7 +43,7 @@ pair-alone p = append-nil (row (p .action) (p .instant ∷ []))
 -- a loop that has put the first k numbers
 pub numbers-begin : (b : List ℕ) → Put b 0 (numberLines []) 0 b
 unfolding numberLines
-numbers-begin b = put-begin b 0 (omega arith)
+numbers-begin b = put-nothing b 0 (omega arith)
 
 pub numbers-more : {b c d : List ℕ} {k r q : ℕ} (ns : List ℕ) → Put b 0 (numberLines (take k ns)) r c
     → Put c r (row (getD ns k 0) []) q d → k < length ns → Put b 0 (numberLines (take (k + 1) ns)) q d
@@ -72,7 +71,7 @@ pairs-next (suc k) words =
 -- a loop that has put the first k pairs
 pub pairs-begin : (b words : List ℕ) (at : ℕ) → at ≤ length b → Put b at (pairLines (pairsIn 0 words)) at b
 unfolding pairLines pairsIn
-pairs-begin b words at l = rw add-zero at (put-begin b at l)
+pairs-begin b words at l = put-nothing b at l
 
 pub pairs-more : {b c d : List ℕ} {at r q : ℕ} (k : ℕ) (words : List ℕ) → Put b at (pairLines (pairsIn k words)) r c
     → Put c r (row (getD words (2 * k) 0) (getD words (2 * k + 1) 0 ∷ [])) q d

@@ -3,7 +3,6 @@ ghost use mathlib.Core.Path.{_≡_};
 ghost use mathlib.Core.List.{[]};
 ghost use Prim.Native.Nat.{_+_, _*_, _≤_};
 ghost use lib.ListN.{length as ListN·length};
-ghost use Rattle.model.specs.Legal.{Pair};
 ghost use Rattle.text.specs.Inside.{Put};
 ghost use Rattle.report.specs.Fit.{printedLength, printedRefusal, printed};
 ghost use Rattle.report.specs.Inside.{Prints};

@@ -1,22 +1,15 @@
 -- The line of a refusal, from its pieces.
 use Prim.Native.Nat.{ℕ, _+_, _≤_, _<_}
 use mathlib.Core.Path.{_≡_}
-use mathlib.Core.Bool.{cond}
 use mathlib.Core.List.{List, [], _∷_, _++_, append-nil}
-use native.Mathlib.Nat.{add-zero}
 use native.Mathlib.Omega.{arith}
 use borrow.Author.Tests.{ne-eqb, lt-ltb, le-ltb}
-use lib.Dec.{eqb, ltb}
 use lib.ListN.{length}
 use Rattle.sheet.specs.declared.Refusal.{Refusal}
 use Rattle.text.specs.Text.{ascii, spaced}
 use Rattle.text.specs.Inside.{Put}
-use Rattle.text.proofs.Laws.{put-begin}
+use Rattle.text.proofs.Laws.{put-nothing}
 use Rattle.report.specs.Words.{sheetReason, questionReason, place}
-
--- where nothing is to be said, nothing is put
-pub put-nothing : (before : List ℕ) (at : ℕ) → at ≤ length before → Put before at [] at before
-put-nothing before at l = rw add-zero at (put-begin before at l)
 
 -- a reason of at most 100 characters, for the number that a `match` has found
 pub reason-put : {before after : List ℕ} {at r n k : ℕ} (reason : ℕ → List ℕ) → n ≡ k → Put before at (reason k) r after

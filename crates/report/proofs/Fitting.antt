@@ -1,15 +1,13 @@
 -- The text of `fit`, from the answers of the calls that it prints.
 -- Assumes nothing.
-use Prim.Native.Nat.{ℕ, _+_, _-_, _*_, _≤_, _<_}
+use Prim.Native.Nat.{ℕ, _+_, _-_, _≤_, _<_}
 use mathlib.Core.Path.{_≡_, refl, sym, _∙_, ap, ap₂}
-use mathlib.Core.Bool.{true, _&&_}
+use mathlib.Core.Bool.{true}
 use mathlib.Core.List.{List, [], _∷_, _++_}
 use mathlib.Core.Option.{Option, none, some}
 use native.Mathlib.Omega.{arith}
-use native.Mathlib.Nat.{add-zero}
 use native.Mathlib.Numerals.{add-one}
 use native.Mathlib.Decide.{decLe}
-use lib.Dec.{leb}
 use borrow.Author.Tests.{le-leb, lt-leb}
 use lib.ListN.{length, drop, length-append}
 use Rattle.model.specs.Machine.{count, machineOf, hyperperiod}
@@ -18,7 +16,7 @@ use Rattle.model.specs.Verdict.{Judgement, verdict}
 use Rattle.model.specs.Verdict.{Fits as fits, Late as late, Open as opened}
 use Rattle.sheet.specs.declared.Refusal.{Refusal}
 use Rattle.sheet.specs.Format.{machineCount, decode}
-use Rattle.sheet.specs.Reply.{Reply, answer}
+use Rattle.sheet.specs.Reply.{answer}
 use Rattle.sheet.specs.Check.{refusalOf, _otherwise_}
 use Rattle.sheet.specs.Inside.{Accepted, Entered}
 use Rattle.sheet.proofs.Decode.{decode-count}
@@ -30,13 +28,13 @@ use Rattle.window.proofs.Asked.{question-kept}
 use Rattle.bounds.specs.Bounds.{requestReply}
 use Rattle.text.specs.Inside.{Put}
 use Rattle.text.specs.Text.{ascii, line}
-use Rattle.text.proofs.Laws.{put-then, put-begin}
+use Rattle.text.proofs.Laws.{put-then, put-nothing}
 use Rattle.verdict.specs.declared.Verdict.{Verdict}
 use Rattle.verdict.specs.declared.Verdict.the-variants.{Refused as refusedWith}
 use Rattle.verdict.specs.Reply.{judged, verdictReply}
 use Rattle.verdict.specs.Reply.{paper as judgedPaper}
 use Rattle.report.specs.declared.Printed.{Printed}
-use Rattle.report.specs.Fit.{refusedLine, machineLine, machineLines, verdictLine, acceptedText, fitOf, fitText}
+use Rattle.report.specs.Fit.{refusedLine, machineLine, machineLines, verdictLine, acceptedText, fitText}
 use Rattle.report.specs.Fit.{handed, printedLength, printedRefusal, printed}
 use Rattle.report.specs.Words.{explanation}
 use Rattle.report.specs.Inside.{Admitted, Prints}
@@ -78,7 +76,7 @@ machine-put b i s a q p = rw (sym s, sym a, sym q) p
 module _ (b : List ℕ) where
   pub machines-begin : (before : List ℕ) (at : ℕ) → at ≤ length before → Put before at (machineLines (decode b) 0) at before
   unfolding machineLines
-  machines-begin before at l = rw add-zero at (put-begin before at l)
+  machines-begin before at l = put-nothing before at l
 
   pub machines-more : {b0 b1 b2 : List ℕ} {at r1 r2 : ℕ} (k : ℕ) → Put b0 at (machineLines (decode b) k) r1 b1
       → Put b1 r1 (machineLine (decode b) k) r2 b2 → Put b0 at (machineLines (decode b) (k + 1)) r2 b2

@@ -56,11 +56,15 @@ pub fn say(line: &[u8]) {
     io::write_all(STDERR_FILENO, line);
 }
 
-// Prints a text on standard output, or says the line that is given for a failure; a refusal is said in words, too.
-pub fn print(program: &[u8], text: &[u8], failure: &[u8], refusal: Refusal) {
+// Prints a text on standard output, or says the line that is given for a failure.
+pub fn print(text: &[u8], failure: &[u8]) {
     if !io::write_all(STDOUT_FILENO, text) {
         say(failure);
     }
+}
+
+// Says in words why the named program was refused, if it was: number 0 is no refusal's.
+pub fn say_refusal(program: &[u8], refusal: Refusal) {
     if refusal.number == 0 {
         return;
     }

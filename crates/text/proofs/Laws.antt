@@ -1,6 +1,6 @@
 -- Laws of pieces of text, and of decimal digits.
 -- Assumes nothing.
-use Prim.Native.Nat.{ℕ, zero, suc, _+_, _-_, _*_, _/_, _%_, _^_, _≤_, _<_}
+use Prim.Native.Nat.{ℕ, zero, suc, _+_, _-_, _/_, _%_, _^_, _≤_, _<_}
 use mathlib.Core.Path.{_≡_, refl, sym, _∙_, ap, ap₂}
 use mathlib.Core.Bool.{cond}
 use mathlib.Core.List.{List, [], _∷_, _++_, append-assoc, append-nil}
@@ -76,13 +76,18 @@ put-then {b0} {b1} {b2} {at} {r1} {r2} {x} {y} p q =
         ∙ drop-drop (r2 - r1) r1 b0
         ∙ ap (λ n. drop n b0) (let z : r1 + (r2 - r1) ≡ r2 = omega (arith, q .next) in z)
 
+-- where nothing is to be said, nothing is put
+pub put-nothing : (b : List ℕ) (at : ℕ) → at ≤ length b → Put b at [] at b
+put-nothing b at l =
+    record { next = sym (add-zero at); fits = l; size = refl; says = sym (take-append-drop at b) }
+
 pub put-one : (b : List ℕ) (at x : ℕ) → at < length b → Put b at (x ∷ []) (at + 1) (set b at x)
 put-one b at x l =
     record { next = refl; fits = omega arith; size = length-set b at x; says = rw add-one (set-split b at x l) }
 
 -- a loop that has put the first i characters
 pub put-begin : (b : List ℕ) (at : ℕ) → at ≤ length b → Put b at [] (at + 0) b
-put-begin b at l = record { next = refl; fits = omega arith; size = refl; says = rw add-zero (sym (take-append-drop at b)) }
+put-begin b at l = rw add-zero (put-nothing b at l)
 
 pub put-more : {b c : List ℕ} {at i : ℕ} (text : List ℕ) → Put b at (take i text) (at + i) c → i < length text → at + i < length c
     → Put b at (take (i + 1) text) (at + (i + 1)) (set c (at + i) (getD text i 0))
@@ -117,7 +122,7 @@ spaced-append (n ∷ ns) ms =
 -- a loop that has put the first i numbers
 pub spaced-begin : (b : List ℕ) (at : ℕ) → at ≤ length b → Put b at (spaced []) at b
 unfolding spaced
-spaced-begin b at l = rw add-zero at (put-begin b at l)
+spaced-begin b at l = put-nothing b at l
 
 pub spaced-more : {b c c1 c2 : List ℕ} {at i r r1 r2 : ℕ} (ns : List ℕ) → Put b at (spaced (take i ns)) r c → Put c r (32 ∷ []) r1 c1
     → Put c1 r1 (decimal (getD ns i 0)) r2 c2 → i < length ns → Put b at (spaced (take (i + 1) ns)) r2 c2

@@ -1,5 +1,7 @@
+use Rattle.text.specs.Inside.{told}
+use Rattle.question.specs.Inside.{named}
 use denote.Ref.{now}
-use Rattle.question.proofs.Asking.{reads, names, other-count, no-name, no-machine, no-start, no-end, this}
+use Rattle.question.proofs.Asking.{as-read, other-count, no-name, no-machine, no-start, no-end, this}
 use borrow.Author.Needs.{needs}
 use Rattle.question.proofs.asked_by.Statement.{statement}
 use Rattle.question.proofs.asked_by.Tie as tie
@@ -25,7 +27,7 @@ returns-2 c =
     let five = read .before in
     let args = five .before .before .before .before .before .args in
     no-name (args .words) (now (args .name)) (now (args .machine)) (now (args .from)) (now (args .to))
-    (five .if1 .left) (names (read .kind-of .ensures) (c .enum-told .given .1))
+    (five .if1 .left) (as-read named (read .kind-of .ensures) (c .enum-told .given .1))
 
 read-number-requires : tie.Need-read-number-requires
 read-number-requires c κs = search needs
@@ -40,11 +42,11 @@ returns-3 : tie.Need-returns-3
 returns-3 c =
     let read = c .before .before in
     let known = read .before in
-    let kind = names (known .before .before .before .kind-of .ensures) (known .before .known .given .1) in
+    let kind = as-read named (known .before .before .before .kind-of .ensures) (known .before .known .given .1) in
     let five = known .before .before .before .before in
     let args = five .before .before .before .before .before .args in
     no-machine (args .words) (now (args .name)) (now (args .machine)) (now (args .from)) (now (args .to))
-    (five .if1 .left) kind (reads (read .read-number .ensures) (c .enum-told2 .given .1))
+    (five .if1 .left) kind (as-read told (read .read-number .ensures) (c .enum-told2 .given .1))
 
 read-number-requires-2 : tie.Need-read-number-requires-2
 read-number-requires-2 c κs = search needs
@@ -60,13 +62,13 @@ returns-4 c =
     let read = c .before .before in
     let number = read .before in
     let known = number .before .before .before .before in
-    let kind = names (known .before .before .before .kind-of .ensures) (known .before .known .given .1) in
+    let kind = as-read named (known .before .before .before .kind-of .ensures) (known .before .known .given .1) in
     let five = known .before .before .before .before in
     let args = five .before .before .before .before .before .args in
     let machine =
-    reads (number .before .before .before .read-number .ensures) (number .before .number .given .1) in
+    as-read told (number .before .before .before .read-number .ensures) (number .before .number .given .1) in
     no-start (args .words) (now (args .name)) (now (args .machine)) (now (args .from)) (now (args .to))
-    (five .if1 .left) kind machine (reads (read .read-number2 .ensures) (c .enum-told3 .given .1))
+    (five .if1 .left) kind machine (as-read told (read .read-number2 .ensures) (c .enum-told3 .given .1))
 
 read-number-requires-3 : tie.Need-read-number-requires-3
 read-number-requires-3 c κs = search needs
@@ -83,27 +85,27 @@ returns-5 c =
     let start = read .before in
     let number = start .before .before .before .before in
     let known = number .before .before .before .before in
-    let kind = names (known .before .before .before .kind-of .ensures) (known .before .known .given .1) in
+    let kind = as-read named (known .before .before .before .kind-of .ensures) (known .before .known .given .1) in
     let five = known .before .before .before .before in
     let args = five .before .before .before .before .before .args in
     let machine =
-    reads (number .before .before .before .read-number .ensures) (number .before .number .given .1) in
-    let from = reads (start .before .before .before .read-number2 .ensures) (start .before .start .given .1) in
+    as-read told (number .before .before .before .read-number .ensures) (number .before .number .given .1) in
+    let from = as-read told (start .before .before .before .read-number2 .ensures) (start .before .start .given .1) in
     no-end (args .words) (now (args .name)) (now (args .machine)) (now (args .from)) (now (args .to))
-    (five .if1 .left) kind machine from (reads (read .read-number3 .ensures) (c .enum-told4 .given .1))
+    (five .if1 .left) kind machine from (as-read told (read .read-number3 .ensures) (c .enum-told4 .given .1))
 
 returns-6 : tie.Need-returns-6
 returns-6 c =
     let start = c .before .before .before .before in
     let number = start .before .before .before .before in
     let known = number .before .before .before .before in
-    let kind = names (known .before .before .before .kind-of .ensures) (known .before .known .given .1) in
+    let kind = as-read named (known .before .before .before .kind-of .ensures) (known .before .known .given .1) in
     let five = known .before .before .before .before in
     let args = five .before .before .before .before .before .args in
     let machine =
-    reads (number .before .before .before .read-number .ensures) (number .before .number .given .1) in
-    let from = reads (start .before .before .before .read-number2 .ensures) (start .before .start .given .1) in
-    let to = reads (c .before .before .before .read-number3 .ensures) (c .before .end .given .1) in
+    as-read told (number .before .before .before .read-number .ensures) (number .before .number .given .1) in
+    let from = as-read told (start .before .before .before .read-number2 .ensures) (start .before .start .given .1) in
+    let to = as-read told (c .before .before .before .read-number3 .ensures) (c .before .end .given .1) in
     this (args .words) (now (args .name)) (now (args .machine)) (now (args .from)) (now (args .to))
     (five .if1 .left) kind machine from to
 

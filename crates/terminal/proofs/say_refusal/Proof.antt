@@ -2,14 +2,8 @@ use mathlib.Core.Path.{sym}
 use lib.Seq.{length-take-le}
 use Rattle.report.proofs.Fitting.{printed-within}
 use borrow.Author.Needs.{needs}
-use Rattle.terminal.proofs.print.Statement.{statement}
-use Rattle.terminal.proofs.print.Tie as tie
-
-write-all-requires : tie.Need-write-all-requires
-write-all-requires c κs = search needs
-
-say-requires : tie.Need-say-requires
-say-requires c κs = search needs
+use Rattle.terminal.proofs.say_refusal.Statement.{statement}
+use Rattle.terminal.proofs.say_refusal.Tie as tie
 
 returns : tie.Need-returns
 returns c = search needs
@@ -28,22 +22,20 @@ slice-aggregate-say c =
     let made = c .before .before in
     sym (length-take-le _ _ (printed-within _ _ _ (made .explain .ensures .0) (made .explain .ensures .1)))
 
-say-requires-2 : tie.Need-say-requires-2
-say-requires-2 c κs = search needs
+say-requires : tie.Need-say-requires
+say-requires c κs = search needs
 
 returns-2 : tie.Need-returns-2
 returns-2 c = search needs
 
-pub print-spec : {M : Type 1} → statement M
-print-spec =
+pub say-refusal-spec : {M : Type 1} → statement M
+say-refusal-spec =
     tie.close
     (tie.spec
-    write-all-requires
-    say-requires
     returns
     slice-aggregate-explain
     explain-requires
     array-share-prefix-line
     slice-aggregate-say
-    say-requires-2
+    say-requires
     returns-2)
