@@ -10,13 +10,13 @@ use Rattle.model.specs.Machine.{machineOf}
 use Rattle.model.specs.Legal.{IsRequestBound, IsDemandBound}
 use Rattle.model.specs.Reckon.{request, demand}
 use Rattle.model.proofs.Bounds.{request-is, demand-is}
-use Rattle.sheet.specs.declared.Refusal.{Refusal}
+use Rattle.reply.specs.declared.Refusal.{Refusal}
 use Rattle.sheet.specs.Format.{decode}
-use Rattle.sheet.specs.Reply.{Reply, refused}
-use Rattle.sheet.specs.Check.{_otherwise_}
-use Rattle.window.specs.declared.Answer.{Answer}
-use Rattle.window.specs.declared.Answer.the-variants.{Value, Refused}
-use Rattle.window.specs.Window.{questionRefusal, paper}
+use Rattle.reply.specs.Reply.{Reply, refused, _otherwise_}
+use Rattle.reply.specs.declared.Answer.{Answer}
+use Rattle.reply.specs.declared.Answer.the-variants.{Value, Refused}
+use Rattle.window.specs.Window.{questionRefusal}
+use Rattle.reply.specs.Answer.{paper}
 use Rattle.window.proofs.Asked.{proper}
 use Rattle.bounds.specs.Bounds.{requestReply, demandReply}
 use Rattle.bounds.specs.Inside.{Asks}

@@ -11,16 +11,16 @@ use borrow.Author.Tests.{le-leb, lt-leb}
 use Rattle.model.specs.Machine.{Machine, machineOf}
 use Rattle.model.specs.Reckon.{request}
 use Rattle.model.proofs.Bounds.{request-is}
-use Rattle.sheet.specs.declared.Refusal.{Refusal}
+use Rattle.reply.specs.declared.Refusal.{Refusal}
 use Rattle.sheet.specs.Format.{decode}
-use Rattle.sheet.specs.Reply.{refusal}
-use Rattle.sheet.specs.Rules.{unless}
-use Rattle.sheet.proofs.First.{orElse-found, orElse-clear}
+use Rattle.reply.specs.Reply.{refusal, unless}
+use Rattle.reply.proofs.Refusals.{orElse-found, orElse-clear, otherwise-refused, otherwise-answered}
 use Rattle.window.specs.Window.{questionRefusal}
-use Rattle.bounds.specs.declared.Tabled.{Tabled}
-use Rattle.bounds.specs.declared.Tabled.the-variants.{Filled, Refused}
-use Rattle.bounds.specs.Table.{tableRefusal, tableReply, withTable, unlessRefused, tableWords, paper, HoldsBounds}
-use Rattle.bounds.proofs.Answer.{otherwise-refused, otherwise-answered}
+use Rattle.reply.specs.declared.Tabled.{Tabled}
+use Rattle.reply.specs.declared.Tabled.the-variants.{Filled, Refused}
+use Rattle.bounds.specs.Table.{tableRefusal, tableReply, withTable, tableWords, HoldsBounds}
+use Rattle.reply.specs.Lent.{unlessRefused}
+use Rattle.reply.specs.Tabled.{paper}
 use Rattle.bounds.proofs.Filling.{listed-first}
 
 module _ (b : List ℕ) (i s n lent : ℕ) where

@@ -4,10 +4,9 @@ use mathlib.Core.List.{List, [], _∷_}
 use Rattle.model.specs.Machine.{machineOf}
 use Rattle.model.specs.Reckon.{request, demand}
 use Rattle.sheet.specs.Format.{decode}
-use Rattle.sheet.specs.Reply.{Reply, answer}
-use Rattle.sheet.specs.Check.{_otherwise_}
-use Rattle.window.specs.declared.Answer.{Answer}
-use Rattle.window.specs.declared.Answer.the-variants.{Value, Refused}
+use Rattle.reply.specs.Reply.{Reply, answer, _otherwise_}
+use Rattle.reply.specs.declared.Answer.{Answer}
+use Rattle.reply.specs.declared.Answer.the-variants.{Value, Refused}
 use Rattle.window.specs.Window.{questionRefusal}
 
 -- of machine i of sheet b: the request bound of [s, f)
@@ -17,8 +16,3 @@ requestReply b i s f = questionRefusal b i s f otherwise answer 0 (request (mach
 -- the demand bound of [s, t]
 abbrev pub demandReply : List ℕ → ℕ → ℕ → ℕ → Reply
 demandReply b i s t = questionRefusal b i s t otherwise answer 0 (demand (machineOf (decode b) i) s (t - s) ∷ [])
-
--- where the answer is a figure, P holds of it
-abbrev pub Figure : (ℕ → Type 0) → Answer → Type 0
-Figure P (Value v) = P v
-Figure P (Refused r) = Unit

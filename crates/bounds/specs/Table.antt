@@ -8,14 +8,12 @@ use lib.ListN.{length, getD, drop}
 use Rattle.model.specs.Machine.{Machine, machineOf}
 use Rattle.model.specs.Legal.{IsRequestBound}
 use Rattle.model.specs.Reckon.{request}
-use Rattle.sheet.specs.declared.Refusal.{Refusal}
+use Rattle.reply.specs.declared.Refusal.{Refusal}
 use Rattle.sheet.specs.Format.{decode}
-use Rattle.sheet.specs.Reply.{Reply, answer, refusal, refused}
-use Rattle.sheet.specs.Rules.{unless, _orElse_}
-use Rattle.sheet.specs.Check.{_otherwise_}
+use Rattle.reply.specs.Reply.{Reply, answer, refusal, refused, unless, _orElse_, _otherwise_}
 use Rattle.window.specs.Window.{questionRefusal}
-use Rattle.bounds.specs.declared.Tabled.{Tabled}
-use Rattle.bounds.specs.declared.Tabled.the-variants.{Filled, Refused}
+use Rattle.reply.specs.declared.Tabled.{Tabled}
+use Rattle.reply.specs.declared.Tabled.the-variants.{Filled, Refused}
 
 -- f 0 to f (n - 1), in a list
 unfoldable pub listed : (ℕ → ℕ) → ℕ → List ℕ
@@ -26,10 +24,6 @@ listed f (suc n) = listed f n ++ (f n ∷ [])
 abbrev pub requestTable : Machine → ℕ → ℕ → List ℕ
 requestTable m s n = listed (request m s) (n + 1)
 
--- 12: lent output too short
-abbrev pub rule12 : ℕ → ℕ → Option Refusal
-rule12 needed lent = unless (leb needed lent) (refusal 12 0 0)
-
 -- the refusal of a question about machine i of sheet b and [s, s + n], if there is one: a table needs n + 1 words
 unfoldable pub tableRefusal : List ℕ → ℕ → ℕ → ℕ → ℕ → Option Refusal
 tableRefusal b i s n lent = questionRefusal b i s (s + n) orElse rule12 (n + 1) lent
@@ -38,27 +32,13 @@ tableRefusal b i s n lent = questionRefusal b i s (s + n) orElse rule12 (n + 1) 
 abbrev pub tableReply : List ℕ → ℕ → ℕ → ℕ → List ℕ → Reply
 tableReply b i s n words = tableRefusal b i s n (length words) otherwise answer 0 []
 
--- the lent words with others in front: words beyond stay as they were
-abbrev pub inFront : List ℕ → List ℕ → List ℕ
-inFront written words = written ++ drop (length written) words
-
--- with the table of machine i of sheet b
+-- the lent words with the table of machine i of sheet b
 abbrev pub withTable : List ℕ → ℕ → ℕ → ℕ → List ℕ → List ℕ
 withTable b i s n words = inFront (requestTable (machineOf (decode b) i) s n) words
 
--- the lent words afterwards: a refused call writes nothing
-abbrev pub unlessRefused : Option Refusal → List ℕ → List ℕ → List ℕ
-unlessRefused none after words = after
-unlessRefused (some r) after words = words
-
--- by the refusal of the call
+-- the lent words afterwards, by the refusal of the call
 abbrev pub tableWords : List ℕ → ℕ → ℕ → ℕ → List ℕ → List ℕ
 tableWords b i s n words = unlessRefused (tableRefusal b i s n (length words)) (withTable b i s n words) words
-
--- the paper's number and values for each answer of `table`
-abbrev pub paper : Tabled → Reply
-paper Filled = answer 0 []
-paper (Refused r) = refused r
 
 -- where the table is filled, word k is the request bound of [s, s + k), for k from 0 to n
 abbrev pub HoldsBounds : Machine → ℕ → ℕ → List ℕ → Tabled → Type 0

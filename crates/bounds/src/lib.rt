@@ -8,21 +8,15 @@ ghost use Rattle.model.specs.Legal.{IsRequestBound, IsDemandBound};
 ghost use Rattle.model.specs.Reckon.{request as Reckon·request, demand as Reckon·demand};
 ghost use Rattle.sheet.specs.Format.{decode};
 ghost use Rattle.walk.specs.Inside.{machineAt, IsEntry};
-ghost use Rattle.window.specs.Window.{paper};
-ghost use Rattle.bounds.specs.Bounds.{requestReply, demandReply, Figure};
+ghost use Rattle.reply.specs.Answer.{paper, Figure};
+ghost use Rattle.bounds.specs.Bounds.{requestReply, demandReply};
 ghost use Rattle.bounds.specs.Table.{tableReply, withTable, tableWords, HoldsBounds};
-ghost use Rattle.bounds.specs.Table.{paper as Table·paper};
+ghost use Rattle.reply.specs.Tabled.{paper as Table·paper};
 ghost use Rattle.bounds.specs.Inside.{Asks, IsFront};
-use sheet::Refusal;
-use sheet::Rule;
+use reply::Answer;
+use reply::Refusal;
+use reply::Rule;
 use walk::Entry;
-use window::Answer;
-
-// What `table` answers.
-pub enum Tabled {
-    Filled,
-    Refused(Refusal),
-}
 
 // The request bound of [from, to) of a machine.
 pub fn request(sheet: &[u8], machine: u32, from: u32, to: u32) -> Answer
@@ -60,11 +54,7 @@ pub fn table(sheet: &[u8], machine: u32, from: u32, length: u32, words: &mut [u3
         return Tabled::Refused(refusal);
     }
     if words.len() <= length as usize {
-        return Tabled::Refused(Refusal {
-            number: 12,
-            first: 0,
-            second: 0,
-        });
+        return Tabled::Refused(reply::placeless(12));
     }
     fill(sheet, machine as usize, from, length, words);
     Tabled::Filled

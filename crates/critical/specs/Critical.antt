@@ -8,15 +8,13 @@ use Rattle.model.specs.Machine.{Machine, machineOf}
 use Rattle.model.specs.Legal.{Pair}
 use Rattle.model.specs.Reckon.{pair}
 use Rattle.model.specs.Critical.{IsCritical, critical}
-use Rattle.sheet.specs.declared.Refusal.{Refusal}
+use Rattle.reply.specs.declared.Refusal.{Refusal}
 use Rattle.sheet.specs.Format.{decode}
-use Rattle.sheet.specs.Reply.{Reply, answer}
-use Rattle.sheet.specs.Rules.{_orElse_}
-use Rattle.sheet.specs.Check.{_otherwise_}
-use Rattle.window.specs.declared.Answer.{Answer}
+use Rattle.reply.specs.Reply.{Reply, answer, _orElse_, _otherwise_}
+use Rattle.reply.specs.declared.Answer.{Answer}
 use Rattle.window.specs.Window.{questionRefusal}
-use Rattle.bounds.specs.Bounds.{Figure}
-use Rattle.bounds.specs.Table.{rule12, inFront, unlessRefused}
+use Rattle.reply.specs.Answer.{Figure}
+use Rattle.reply.specs.Lent.{rule12, inFront, unlessRefused}
 
 -- the critical sequence of [s, f) of machine i of sheet b
 unfoldable pub sequenceOf : List ℕ → ℕ → ℕ → ℕ → List Pair

@@ -7,14 +7,14 @@ ghost use mathlib.Core.Path.{_≡_};
 ghost use lib.ListN.{length};
 ghost use Rattle.model.specs.Machine.{machineOf};
 ghost use Rattle.sheet.specs.Format.{decode};
-ghost use Rattle.window.specs.Window.{paper};
+ghost use Rattle.reply.specs.Answer.{paper};
 ghost use Rattle.window.specs.Inside.{Proper};
 ghost use Rattle.critical.specs.Critical.{sequenceOf, criticalReply, criticalWords, HoldsCritical};
 ghost use Rattle.critical.specs.Inside.{Marked, markedSequence, Holds};
-use sheet::Refusal;
-use sheet::Rule;
+use reply::Answer;
+use reply::Refusal;
+use reply::Rule;
 use walk::Entry;
-use window::Answer;
 
 // The critical sequence of a machine and the window from `from` to `to`: its number of pairs, and in
 // `words` two words a pair, the action and the instant; words beyond stay as they were. Or the
@@ -32,11 +32,7 @@ pub fn critical(sheet: &[u8], machine: u32, from: u32, to: u32, words: &mut [u32
     let number = find(sheet, machine as usize, from, to, &mut pairs);
     let needed = 2 * number;
     if words.len() < needed {
-        return Answer::Refused(Refusal {
-            number: 12,
-            first: 0,
-            second: 0,
-        });
+        return Answer::Refused(reply::placeless(12));
     }
     copy(&pairs[..needed], &mut words[..needed]);
     Answer::Value(number as u32)

@@ -2,7 +2,6 @@
 // `stdout` beside src/ has what they must be. An action has a period T, a time C and a deadline D.
 mod sequences;
 
-use bounds::Tabled;
 use draft::Draft;
 use draft::action;
 use draft::cut;
@@ -16,8 +15,9 @@ use draft::turn;
 use draft::two_actions;
 use draft::with_byte;
 use libc::STDOUT_FILENO;
-use sheet::Refusal;
-use window::Answer;
+use reply::Answer;
+use reply::Refusal;
+use reply::Tabled;
 
 pub(crate) fn text(words: &[u8]) {
     io::write_all(STDOUT_FILENO, words);

@@ -16,21 +16,21 @@ use Rattle.model.specs.Inside.{Closed, figure, IsRow}
 use Rattle.model.proofs.Largest.{largest-unique}
 use Rattle.model.proofs.Bounds.{request-is}
 use Rattle.model.proofs.Row.{row-request}
-use Rattle.sheet.specs.declared.Refusal.{Refusal}
+use Rattle.reply.specs.declared.Refusal.{Refusal}
 use Rattle.sheet.specs.Format.{decode}
-use Rattle.sheet.specs.Reply.{refusal}
-use Rattle.sheet.specs.Rules.{unless, _orElse_}
-use Rattle.sheet.proofs.First.{orElse-found, orElse-clear}
+use Rattle.reply.specs.Reply.{refusal, unless, _orElse_}
+use Rattle.reply.proofs.Refusals.{orElse-found, orElse-clear, otherwise-refused, otherwise-answered}
 use Rattle.walk.specs.declared.Entry.{Entry}
 use Rattle.walk.specs.Inside.{machineAt}
-use Rattle.window.specs.declared.Answer.{Answer}
-use Rattle.window.specs.declared.Answer.the-variants.{Value, Refused}
-use Rattle.window.specs.Window.{questionRefusal, paper}
+use Rattle.reply.specs.declared.Answer.{Answer}
+use Rattle.reply.specs.declared.Answer.the-variants.{Value, Refused}
+use Rattle.window.specs.Window.{questionRefusal}
+use Rattle.reply.specs.Answer.{paper, Figure}
 use Rattle.window.proofs.Asked.{proper}
-use Rattle.bounds.specs.declared.Tabled.the-variants.{Filled}
-use Rattle.bounds.specs.Bounds.{requestReply, Figure}
+use Rattle.reply.specs.declared.Tabled.the-variants.{Filled}
+use Rattle.bounds.specs.Bounds.{requestReply}
 use Rattle.bounds.specs.Table.{HoldsBounds}
-use Rattle.bounds.proofs.Answer.{otherwise-refused, otherwise-answered, answer-unique}
+use Rattle.reply.proofs.Unique.{answer-unique}
 use Rattle.plain.specs.Plain.{instants, rule14, plainRefusal, plainReply}
 use Rattle.plain.specs.Inside.{Span}
 

@@ -8,12 +8,11 @@ ghost use mathlib.Core.Path.{_≡_};
 ghost use Rattle.model.specs.Machine.{machineOf};
 ghost use Rattle.model.specs.Legal.{IsRequestBound};
 ghost use Rattle.sheet.specs.Format.{decode};
-ghost use Rattle.window.specs.Window.{paper};
-ghost use Rattle.bounds.specs.Bounds.{Figure};
+ghost use Rattle.reply.specs.Answer.{paper, Figure};
 ghost use Rattle.plain.specs.Plain.{plainReply};
-use sheet::Refusal;
-use sheet::Rule;
-use window::Answer;
+use reply::Answer;
+use reply::Refusal;
+use reply::Rule;
 
 // The request bound of [from, to) of a machine; 14 where the window holds more than 6 instants.
 pub fn plain(sheet: &[u8], machine: u32, from: u32, to: u32) -> Answer
@@ -26,11 +25,7 @@ pub fn plain(sheet: &[u8], machine: u32, from: u32, to: u32) -> Answer
     }
     let entry = walk::entry_of(sheet, machine as usize);
     if 6 < instant::instants_in(sheet, entry, from, to) {
-        return Answer::Refused(Refusal {
-            number: 14,
-            first: 0,
-            second: 0,
-        });
+        return Answer::Refused(reply::placeless(14));
     }
     Answer::Value(ask::ask_machine(sheet, entry, from, to))
 }

@@ -10,26 +10,26 @@ use lib.ListN.{length, take, drop}
 use lib.Seq.{take-at}
 use borrow.Author.Tests.{leb-true, eq-eqb, ne-eqb}
 use Rattle.model.specs.Machine.{machineOf}
-use Rattle.sheet.specs.declared.Refusal.{Refusal}
+use Rattle.reply.specs.declared.Refusal.{Refusal}
 use Rattle.sheet.specs.Format.{decode}
-use Rattle.sheet.specs.Reply.{Reply, answer, refused, refusal}
-use Rattle.sheet.specs.Check.{_otherwise_}
+use Rattle.reply.specs.Reply.{Reply, answer, refused, refusal, _otherwise_}
 use Rattle.sheet.specs.Rules.{same}
 use Rattle.sheet.proofs.Tests.{same-test}
-use Rattle.sheet.proofs.First.{orElse-none, unless-none}
-use Rattle.window.specs.declared.Answer.{Answer}
-use Rattle.window.specs.declared.Answer.the-variants.{Value, Refused}
-use Rattle.window.specs.Window.{questionRefusal, paper}
-use Rattle.bounds.specs.declared.Tabled.{Tabled}
-use Rattle.bounds.specs.declared.Tabled.the-variants.{Filled, Refused as refusedWith}
-use Rattle.bounds.specs.Table.{requestTable, rule12, tableRefusal, tableReply, withTable, tableWords, unlessRefused, inFront}
-use Rattle.bounds.specs.Table.{paper as tabledPaper}
+use Rattle.reply.proofs.Refusals.{orElse-none, unless-none}
+use Rattle.reply.specs.declared.Answer.{Answer}
+use Rattle.reply.specs.declared.Answer.the-variants.{Value, Refused}
+use Rattle.window.specs.Window.{questionRefusal}
+use Rattle.reply.specs.Answer.{paper}
+use Rattle.reply.specs.declared.Tabled.{Tabled}
+use Rattle.reply.specs.declared.Tabled.the-variants.{Filled, Refused as refusedWith}
+use Rattle.bounds.specs.Table.{requestTable, tableRefusal, tableReply, withTable, tableWords}
+use Rattle.reply.specs.Lent.{rule12, unlessRefused, inFront}
+use Rattle.reply.specs.Tabled.{paper as tabledPaper}
 use Rattle.bounds.proofs.Filling.{listed-length}
 use Rattle.critical.specs.Critical.{sequenceOf, wordsOf, criticalRefusal, criticalReply, criticalWords, pairsIn}
 use Rattle.critical.proofs.Words.{words-pairs}
-use Rattle.text.specs.Text.{row}
+use Rattle.text.specs.Text.{row, readNumber}
 use Rattle.text.specs.Inside.{Put}
-use Rattle.text.specs.Text.{readNumber}
 use Rattle.report.specs.declared.Printed.{Printed}
 use Rattle.report.specs.Fit.{refusedLine}
 use Rattle.report.specs.Inside.{Prints}

@@ -7,9 +7,9 @@ use lib.Dec.{eqb}
 use lib.ListN.{replicate}
 use Rattle.model.specs.Machine.{machineOf}
 use Rattle.model.specs.Legal.{Pair}
-use Rattle.sheet.specs.declared.Refusal.{Refusal}
+use Rattle.reply.specs.declared.Refusal.{Refusal}
 use Rattle.sheet.specs.Format.{decode}
-use Rattle.sheet.specs.Reply.{Reply, answer, refused}
+use Rattle.reply.specs.Reply.{Reply, answer, refused}
 use Rattle.sheet.specs.Rules.{same}
 use Rattle.bounds.specs.Bounds.{requestReply, demandReply}
 use Rattle.bounds.specs.Table.{requestTable, tableReply}

@@ -6,16 +6,16 @@ ghost use lib.ListN.{length as ListN·length};
 ghost use Rattle.text.specs.Inside.{Put};
 ghost use Rattle.report.specs.Fit.{printedLength, printedRefusal, printed};
 ghost use Rattle.report.specs.Inside.{Prints};
-ghost use Rattle.window.specs.Window.{paper};
+ghost use Rattle.reply.specs.Answer.{paper};
 ghost use Rattle.critical.specs.Critical.{pairsIn};
 ghost use Rattle.question.specs.declared.Kind.the-variants.{Table, Critical};
 ghost use Rattle.question.specs.Ask.{kindOf, asks, numberLines, pairLines, refusalIn, replyText};
 ghost use Rattle.question.specs.Ask.{answerText, answerRefusal, askText, askRefusal};
 ghost use Rattle.question.specs.Inside.{named};
-use bounds::Tabled;
+use reply::Answer;
+use reply::Tabled;
 use report::Printed;
 use text::Number;
-use window::Answer;
 
 // What can be asked about a machine and a window.
 pub enum Kind {

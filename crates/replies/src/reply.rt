@@ -1,11 +1,11 @@
 // A reply: six words, which are its number, how many values it has, and four values, 0 where there are fewer. A proper
 // result has number 0; the verdict Open has 13; a refusal has its own number, and its place for values.
 use crate::question::Question;
-use bounds::Tabled;
-use sheet::Checked;
-use sheet::Refusal;
-use verdict::Verdict;
-use window::Answer;
+use reply::Answer;
+use reply::Checked;
+use reply::Refusal;
+use reply::Tabled;
+use reply::Verdict;
 
 pub(crate) type Reply = [u32; 6];
 

@@ -12,27 +12,27 @@ use borrow.Author.Tests.{le-leb, lt-leb}
 use lib.ListN.{length, drop, length-append}
 use Rattle.model.specs.Machine.{count, machineOf, hyperperiod}
 use Rattle.model.specs.Reckon.{request}
-use Rattle.model.specs.Verdict.{Judgement, verdict}
-use Rattle.model.specs.Verdict.{Fits as fits, Late as late, Open as opened}
-use Rattle.sheet.specs.declared.Refusal.{Refusal}
+use Rattle.model.specs.Verdict.{Judgement, verdict, Fits as fits, Late as late, Open as opened}
+use Rattle.reply.specs.declared.Refusal.{Refusal}
 use Rattle.sheet.specs.Format.{machineCount, decode}
-use Rattle.sheet.specs.Reply.{answer}
-use Rattle.sheet.specs.Check.{refusalOf, _otherwise_}
+use Rattle.reply.specs.Reply.{answer, _otherwise_}
+use Rattle.sheet.specs.Check.{refusalOf}
 use Rattle.sheet.specs.Inside.{Accepted, Entered}
 use Rattle.sheet.proofs.Decode.{decode-count}
 use Rattle.sheet.proofs.Answer.{not-refused}
-use Rattle.window.specs.declared.Answer.{Answer}
-use Rattle.window.specs.declared.Answer.the-variants.{Value, Refused}
-use Rattle.window.specs.Window.{windowInRange, paper}
+use Rattle.reply.specs.declared.Answer.{Answer}
+use Rattle.reply.specs.declared.Answer.the-variants.{Value, Refused}
+use Rattle.window.specs.Window.{windowInRange}
+use Rattle.reply.specs.Answer.{paper}
 use Rattle.window.proofs.Asked.{question-kept}
 use Rattle.bounds.specs.Bounds.{requestReply}
 use Rattle.text.specs.Inside.{Put}
 use Rattle.text.specs.Text.{ascii, line}
 use Rattle.text.proofs.Laws.{put-then, put-nothing}
-use Rattle.verdict.specs.declared.Verdict.{Verdict}
-use Rattle.verdict.specs.declared.Verdict.the-variants.{Refused as refusedWith}
+use Rattle.reply.specs.declared.Verdict.{Verdict}
+use Rattle.reply.specs.declared.Verdict.the-variants.{Refused as refusedWith}
 use Rattle.verdict.specs.Reply.{judged, verdictReply}
-use Rattle.verdict.specs.Reply.{paper as judgedPaper}
+use Rattle.reply.specs.Verdict.{paper as judgedPaper}
 use Rattle.report.specs.declared.Printed.{Printed}
 use Rattle.report.specs.Fit.{refusedLine, machineLine, machineLines, verdictLine, acceptedText, fitText}
 use Rattle.report.specs.Fit.{handed, printedLength, printedRefusal, printed}

@@ -8,9 +8,9 @@ use lib.ListN.{length, drop}
 use Rattle.model.specs.Machine.{Machine, count, machineOf, hyperperiod}
 use Rattle.model.specs.Reckon.{request}
 use Rattle.model.specs.Verdict.{Judgement, Fits, Late, Open, verdict}
-use Rattle.sheet.specs.declared.Refusal.{Refusal}
+use Rattle.reply.specs.declared.Refusal.{Refusal}
 use Rattle.sheet.specs.Format.{decode}
-use Rattle.sheet.specs.Reply.{refusal}
+use Rattle.reply.specs.Reply.{refusal}
 use Rattle.sheet.specs.Check.{refusalOf}
 use Rattle.text.specs.Text.{ascii, line}
 

@@ -6,7 +6,7 @@ use mathlib.Core.Option.{Option, none}
 use Rattle.model.specs.Machine.{hyperperiod}
 use Rattle.sheet.specs.Format.{decode}
 use Rattle.sheet.specs.Check.{refusalOf}
-use Rattle.sheet.specs.declared.Refusal.{Refusal}
+use Rattle.reply.specs.declared.Refusal.{Refusal}
 use Rattle.text.specs.Inside.{Put}
 use Rattle.report.specs.declared.Printed.{Printed}
 use Rattle.report.specs.Fit.{handed}

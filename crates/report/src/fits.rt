@@ -13,11 +13,11 @@ ghost use Rattle.report.specs.Fit.{refusedLine, machineLine, machineLine
 ghost use Rattle.report.specs.Fit.{handed, printedLength, printedRefusal, printed};
 ghost use Rattle.report.specs.Inside.{Admitted, Prints};
 use crate::Printed;
-use sheet::Checked;
-use sheet::Refusal;
+use reply::Answer;
+use reply::Checked;
+use reply::Refusal;
+use reply::Verdict;
 use sheet::read;
-use verdict::Verdict;
-use window::Answer;
 
 // A text that prints no refusal.
 pub fn unrefused(length: usize) -> Printed

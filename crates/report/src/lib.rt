@@ -5,7 +5,7 @@ mod words;
 pub use fits::fit;
 pub use fits::print_refused;
 pub use fits::unrefused;
-use sheet::Refusal;
+use reply::Refusal;
 pub use words::explain;
 
 // What was printed into lent bytes: the length of the text, and the refusal that it prints, number 0 at place 0, 0

@@ -5,7 +5,7 @@ ghost use lib.ListN.{length};
 ghost use Rattle.text.specs.Inside.{Put};
 ghost use Rattle.report.specs.Fit.{printedLength, printed};
 ghost use Rattle.report.specs.Words.{sheetReason, questionReason, reason, place, explanation};
-use sheet::Refusal;
+use reply::Refusal;
 
 // Why a sheet is refused, by the number.
 fn put_sheet_reason(out: &mut [u8], at: usize, number: u32) -> usize

@@ -14,7 +14,7 @@ use Rattle.model.specs.Sizes.{Between, ActionSizes, MachineSizes, Sizes}
 use Rattle.model.proofs.Names.{divisor-divides}
 use Rattle.model.proofs.Sizes.{hyperperiod-positive, period-divides-hyperperiod}
 use Rattle.sheet.specs.Format.{entry, trailerOffset, machineCount, decode}
-use Rattle.sheet.specs.Reply.{refusal}
+use Rattle.reply.specs.Reply.{refusal}
 use Rattle.sheet.specs.Rules.{rule1, rule3, rule4, rule5, rule6, rule7, rule8, rule9}
 use Rattle.sheet.specs.Rules.{actionsBefore, between, trailerInRange, entryInRange, actionInRange, deadlineInRange}
 use Rattle.sheet.specs.Rules.{entryRefusal, offsetRefusal, endRefusal, actionRefusal, machineRefusal}
@@ -22,7 +22,7 @@ use Rattle.sheet.specs.Inside.{Laid, Entered, Filled, Ranged, Accepted}
 use Rattle.model.specs.Search.{firstOf}
 use Rattle.model.proofs.Search.{first-none}
 use Rattle.sheet.proofs.Decode.{decode-count, decode-machine, decode-actions}
-use Rattle.sheet.proofs.First.{unless-none, orElse-none}
+use Rattle.reply.proofs.Refusals.{unless-none, orElse-none}
 use Rattle.sheet.proofs.Tests.{both, between-true}
 
 module _ (b : List ℕ) where

@@ -7,16 +7,17 @@ use mathlib.Core.Option.{Option, none, some}
 use native.Mathlib.Omega.{arith}
 use borrow.Author.Tests.{le-leb, lt-leb}
 use Rattle.model.specs.Machine.{hyperperiod}
-use Rattle.sheet.specs.declared.Checked.{Checked}
-use Rattle.sheet.specs.declared.Checked.the-variants.{Accepted, Refused}
-use Rattle.sheet.specs.declared.Refusal.{Refusal}
+use Rattle.reply.specs.declared.Checked.{Checked}
+use Rattle.reply.specs.declared.Checked.the-variants.{Accepted, Refused}
+use Rattle.reply.specs.declared.Refusal.{Refusal}
 use Rattle.sheet.specs.Format.{machineCount, decode}
-use Rattle.sheet.specs.Reply.{Reply, answer, refusal, refused, paper}
-use Rattle.sheet.specs.Rules.{unless, _orElse_, rule1, rule2, rule3, rule4, rule5, rule6, rule7, rule8, rule9}
-use Rattle.sheet.specs.Check.{refusalOf, _otherwise_, checkReply}
-use Rattle.sheet.specs.Inside.{trailerRules, firstRules, Laid, Entered, Filled, Ranged}
-use Rattle.sheet.specs.Inside.{Accepted as IsAccepted}
-use Rattle.sheet.proofs.First.{orElse-assoc, orElse-none, orElse-found, orElse-clear}
+use Rattle.reply.specs.Reply.{Reply, answer, refusal, refused, unless, _orElse_, _otherwise_}
+use Rattle.reply.specs.Checked.{paper}
+use Rattle.sheet.specs.Rules.{rule1, rule2, rule3, rule4, rule5, rule6, rule7, rule8, rule9}
+use Rattle.sheet.specs.Check.{refusalOf, checkReply}
+use Rattle.sheet.specs.Inside.{trailerRules, firstRules, Laid, Entered, Filled, Ranged, Accepted as IsAccepted}
+use Rattle.reply.proofs.Refusals.{orElse-assoc, orElse-none, orElse-found, orElse-clear}
+use Rattle.reply.proofs.Unique.{checked-unique}
 use Rattle.sheet.proofs.Accepted.{laid, entered, filled, ranged, accepted}
 
 module _ (b : List ℕ) where
@@ -108,11 +109,5 @@ module _ (b : List ℕ) where
       cases (some y) q = absurd (let d = decided (some y) q r p in let z : _≡_ {A = ℕ} 0 1 = cc in omega arith)
 
 -- no second result satisfies the contract of `check`
-paper-injective : (r s : Checked) → paper r ≡ paper s → r ≡ s
-paper-injective (Accepted m h) (Accepted n i) e = cc
-paper-injective (Accepted m h) (Refused s) e = absurd (let z : _≡_ {A = ℕ} 0 1 = cc in omega arith)
-paper-injective (Refused r) (Accepted n i) e = absurd (let z : _≡_ {A = ℕ} 0 1 = cc in omega arith)
-paper-injective (Refused r) (Refused s) e = cc
-
 pub check-unique : (b : List ℕ) (r s : Checked) → paper r ≡ checkReply b → paper s ≡ checkReply b → r ≡ s
-check-unique b r s p q = paper-injective r s (p ∙ sym q)
+check-unique b = checked-unique

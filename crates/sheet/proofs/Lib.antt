@@ -1,5 +1,4 @@
 pub mod Decode
-pub mod First
 pub mod Tests
 pub mod Walk
 pub mod Accepted

@@ -15,9 +15,9 @@ use Rattle.model.specs.Machine.{Action, Machine, count, actionOf, machineOf, di
 use Rattle.model.specs.Sizes.{Between}
 use Rattle.sheet.specs.Format.{Entry, entry, trailerOffset, machineCount, lastFour, mark, decode}
 use Rattle.sheet.specs.Rules.{between, same, entryInRange, actionsBefore, endRefusal}
-use Rattle.sheet.specs.Reply.{refusal}
+use Rattle.reply.specs.Reply.{refusal}
 use Rattle.sheet.specs.Inside.{keeps, keepsIn}
-use Rattle.sheet.proofs.First.{equal-broken, equal-kept}
+use Rattle.reply.proofs.Refusals.{equal-broken, equal-kept}
 use Rattle.sheet.proofs.Decode.{decode-machine, decode-actions}
 
 pub both : (a b : Bool) → a && b ≡ true → (a ≡ true) × (b ≡ true)

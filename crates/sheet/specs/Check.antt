@@ -3,10 +3,10 @@ use Prim.Native.Nat.{ℕ}
 use mathlib.Core.List.{List, [], _∷_}
 use mathlib.Core.Option.{Option, none, some}
 use Rattle.model.specs.Machine.{hyperperiod}
-use Rattle.sheet.specs.declared.Refusal.{Refusal}
+use Rattle.reply.specs.declared.Refusal.{Refusal}
 use Rattle.sheet.specs.Format.{machineCount, decode}
-use Rattle.sheet.specs.Reply.{Reply, answer, refused}
-use Rattle.sheet.specs.Rules.{_orElse_, rule1, rule2, rule3, rule4, rule5, rule6, rule7, rule8, rule9}
+use Rattle.reply.specs.Reply.{Reply, answer, _orElse_, _otherwise_}
+use Rattle.sheet.specs.Rules.{rule1, rule2, rule3, rule4, rule5, rule6, rule7, rule8, rule9}
 
 -- the refusal under rules 1 to 9, if there is one
 unfoldable pub refusalOf : List ℕ → Option Refusal
@@ -20,12 +20,6 @@ refusalOf b =
     orElse rule7 b
     orElse rule8 b
     orElse rule9 b
-
--- the refusal, or what a call answers on an accepted sheet
-infixr 10 _otherwise_
-abbrev pub _otherwise_ : Option Refusal → Reply → Reply
-none otherwise reply = reply
-some r otherwise reply = refused r
 
 -- the reply of `check`: an accepted sheet's number of machines, and H
 abbrev pub checkReply : List ℕ → Reply

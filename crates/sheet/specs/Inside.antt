@@ -8,16 +8,12 @@ use lib.Dec.{leb, ltb, eqb}
 use lib.ListN.{length}
 use Rattle.model.specs.Machine.{Action, Machine, count, actionOf, machineOf, divisor, hyperperiod}
 use Rattle.model.specs.Sizes.{Between, Sizes}
-use Rattle.sheet.specs.declared.Refusal.{Refusal}
-use Rattle.sheet.specs.declared.Rule.{Rule}
-use Rattle.sheet.specs.declared.Rule.the-variants.{Kept, Broken}
+use Rattle.reply.specs.declared.Refusal.{Refusal}
+use Rattle.reply.specs.declared.Rule.{Rule}
+use Rattle.reply.specs.declared.Rule.the-variants.{Kept, Broken}
 use Rattle.sheet.specs.Format.{entry, trailerOffset, machineCount, decode}
-use Rattle.sheet.specs.Rules.{between, actionsBefore, _orElse_, rule1, rule2, rule3, rule4, rule5, rule6, rule7, rule8}
-
--- what a rule's function answers, as its definition has it
-abbrev pub found : Rule → Option Refusal
-found Kept = none
-found (Broken r) = some r
+use Rattle.sheet.specs.Rules.{between, actionsBefore, rule1, rule2, rule3, rule4, rule5, rule6, rule7, rule8}
+use Rattle.reply.specs.Reply.{_orElse_}
 
 -- the refusal under rules 1 to 4, and under rules 1 to 8, if there is one
 abbrev pub trailerRules : List ℕ → Option Refusal

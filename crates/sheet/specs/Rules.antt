@@ -8,19 +8,8 @@ use lib.ListN.{length}
 use Rattle.model.specs.Machine.{Action, Machine, count, actionOf, machineOf, divisor, hyperperiod}
 use Rattle.sheet.specs.Format.{Entry, entry, trailerOffset, machineCount, lastFour, mark, decode}
 use Rattle.model.specs.Search.{firstOf}
-use Rattle.sheet.specs.declared.Refusal.{Refusal}
-use Rattle.sheet.specs.Reply.{refusal}
-
--- where the test fails, the refusal
-abbrev pub unless : Bool → Refusal → Option Refusal
-unless true r = none
-unless false r = some r
-
--- the earlier refusal, if there is one, or else the later
-infixr 20 _orElse_
-abbrev pub _orElse_ : Option Refusal → Option Refusal → Option Refusal
-none orElse later = later
-some r orElse later = some r
+use Rattle.reply.specs.declared.Refusal.{Refusal}
+use Rattle.reply.specs.Reply.{refusal, unless, _orElse_}
 
 -- tests: from low to high, and the same bytes in the same order
 abbrev pub between : ℕ → ℕ → ℕ → Bool

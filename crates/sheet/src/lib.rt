@@ -4,29 +4,13 @@ pub mod read;
 mod rules;
 
 ghost use mathlib.Core.Path.{_≡_};
-ghost use Rattle.sheet.specs.Reply.{paper};
+ghost use Rattle.reply.specs.Checked.{paper};
 ghost use Rattle.sheet.specs.Check.{checkReply};
-ghost use Rattle.sheet.specs.Inside.{found, firstRules};
+ghost use Rattle.sheet.specs.Inside.{firstRules};
+ghost use Rattle.reply.specs.Inside.{found};
+use reply::Checked;
+use reply::Rule;
 pub use rules::divisor_of;
-
-// Why a call is refused: the number of the reply, and its place.
-pub struct Refusal {
-    pub number: u32,
-    pub first: u32,
-    pub second: u32,
-}
-
-// What `check` answers.
-pub enum Checked {
-    Accepted { machines: u32, hyperperiod: u32 },
-    Refused(Refusal),
-}
-
-// What a rule says of a sheet.
-pub enum Rule {
-    Kept,
-    Broken(Refusal),
-}
 
 // Checks a sheet: accepted, with its number of machines and its hyperperiod, or refused under the
 // first of rules 1 to 9 that it breaks, with the first place at which it breaks it.
@@ -39,11 +23,7 @@ pub fn check(sheet: &[u8]) -> Checked
     }
     let hyperperiod = rules::hyperperiod_of(sheet);
     if 1024 < hyperperiod {
-        return Checked::Refused(Refusal {
-            number: 9,
-            first: 0,
-            second: 0,
-        });
+        return Checked::Refused(reply::placeless(9));
     }
     Checked::Accepted {
         machines: read::machine_count(sheet) as u32,

@@ -8,14 +8,14 @@ ghost use Rattle.number.specs.Divide.{fold, lcm};
 ghost use Rattle.model.specs.Machine.{machineOf, periods, divisor, hyperperiod};
 ghost use Rattle.model.specs.Sizes.{Between};
 ghost use Rattle.sheet.specs.Format.{actionAt, entry, machineCount, lastFour, mark, decode};
-ghost use Rattle.sheet.specs.Reply.{refusal};
+ghost use Rattle.reply.specs.Reply.{refusal};
 ghost use Rattle.sheet.specs.Rules.{same, trailerInRange, entryInRange, machineRefusal, actionsRefusal};
-ghost use Rattle.sheet.specs.Rules.{rule5, rule6};
-ghost use Rattle.sheet.specs.Rules.{between as Rules·between};
-ghost use Rattle.sheet.specs.Inside.{found, trailerRules, Laid, Entered, Filled, Ranged, keeps, keepsIn, Limited};
-use crate::Refusal;
-use crate::Rule;
+ghost use Rattle.sheet.specs.Rules.{rule5, rule6, between as Rules·between};
+ghost use Rattle.sheet.specs.Inside.{trailerRules, Laid, Entered, Filled, Ranged, keeps, keepsIn, Limited};
+ghost use Rattle.reply.specs.Inside.{found};
 use crate::read;
+use reply::Refusal;
+use reply::Rule;
 
 const MARK: [u8; 4] = *b"SFS1";
 
@@ -59,16 +59,16 @@ pub(crate) fn trailer_rules(sheet: &[u8]) -> Rule
     ensures { λ r. ⌜ found r ≡ trailerRules (now (sheet .entry)) ⌝ }
 {
     if !between(28, 2124, sheet.len()) {
-        return broken(1, 0, 0);
+        return Rule::Broken(reply::placeless(1));
     }
     if !marked(sheet) {
-        return broken(2, 0, 0);
+        return Rule::Broken(reply::placeless(2));
     }
     if !between(1, 8, read::machine_count(sheet)) {
-        return broken(3, 0, 0);
+        return Rule::Broken(reply::placeless(3));
     }
     if !trailer_in_range(sheet) {
-        return broken(4, 0, 0);
+        return Rule::Broken(reply::placeless(4));
     }
     Rule::Kept
 }

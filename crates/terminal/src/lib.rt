@@ -5,7 +5,7 @@ ghost use Rattle.terminal.specs.Inside.{LiesIn};
 use libc::STDERR_FILENO;
 use libc::STDIN_FILENO;
 use libc::STDOUT_FILENO;
-use sheet::Refusal;
+use reply::Refusal;
 
 // What reading a sheet came to: so many bytes, at the start of those lent, or a read that failed, whatever came
 // before it.

@@ -15,7 +15,7 @@ use draft::two;
 use draft::two_actions;
 use draft::with_byte;
 use libc::STDOUT_FILENO;
-use sheet::Checked;
+use reply::Checked;
 
 fn text(words: &[u8]) {
     io::write_all(STDOUT_FILENO, words);

@@ -7,19 +7,19 @@ use mathlib.Core.Option.{Option, none, some, Option·getD}
 use native.Mathlib.Omega.{arith}
 use Rattle.model.specs.Run.{Safe}
 use Rattle.model.specs.Search.{firstOf}
-use Rattle.model.specs.Verdict.{Judgement, machineGives, verdict}
-use Rattle.model.specs.Verdict.{Fits as fits}
+use Rattle.model.specs.Verdict.{Judgement, machineGives, verdict, Fits as fits}
 use Rattle.model.proofs.Safe.{fits-safe}
-use Rattle.sheet.specs.declared.Refusal.{Refusal}
+use Rattle.reply.specs.declared.Refusal.{Refusal}
 use Rattle.sheet.specs.Format.{machineCount, decode}
-use Rattle.sheet.specs.Reply.{Reply, refused}
-use Rattle.sheet.specs.Check.{refusalOf, _otherwise_}
+use Rattle.reply.specs.Reply.{Reply, refused, _otherwise_}
+use Rattle.sheet.specs.Check.{refusalOf}
 use Rattle.sheet.proofs.Decode.{decode-count}
 use Rattle.sheet.proofs.Answer.{not-refused}
-use Rattle.verdict.specs.declared.Window.{Window}
-use Rattle.verdict.specs.declared.Verdict.{Verdict}
-use Rattle.verdict.specs.declared.Verdict.the-variants.{Fits, Late, Open, Refused}
-use Rattle.verdict.specs.Reply.{judged, paper, verdictReply}
+use Rattle.reply.specs.declared.Window.{Window}
+use Rattle.reply.specs.declared.Verdict.{Verdict}
+use Rattle.reply.specs.declared.Verdict.the-variants.{Fits, Late, Open, Refused}
+use Rattle.verdict.specs.Reply.{judged, verdictReply}
+use Rattle.reply.specs.Verdict.{paper}
 
 module _ (b : List ℕ) where
   pub reply-refused : {r : Refusal} → refusalOf b ≡ some r → refused r ≡ verdictReply b

@@ -1,26 +1,18 @@
 -- Document 01, "Verdict" and "Numbered replies": the reply of `judge`, and the paper's number and values of each case.
 use Prim.Native.Nat.{ℕ}
 use mathlib.Core.List.{List, [], _∷_}
-use Rattle.model.specs.Verdict.{Judgement, verdict}
-use Rattle.model.specs.Verdict.{Fits as fits, Late as late, Open as opened}
+use Rattle.model.specs.Verdict.{Judgement, verdict, Fits as fits, Late as late, Open as opened}
 use Rattle.sheet.specs.Format.{decode}
-use Rattle.sheet.specs.Reply.{Reply, answer, refused}
-use Rattle.sheet.specs.Check.{refusalOf, _otherwise_}
-use Rattle.verdict.specs.declared.Verdict.{Verdict}
-use Rattle.verdict.specs.declared.Verdict.the-variants.{Fits, Late, Open, Refused}
+use Rattle.reply.specs.Reply.{Reply, answer, refused, _otherwise_}
+use Rattle.sheet.specs.Check.{refusalOf}
+use Rattle.reply.specs.declared.Verdict.{Verdict}
+use Rattle.reply.specs.declared.Verdict.the-variants.{Fits, Late, Open, Refused}
 
 -- Fits has no number in the table and no figures; Late has its four; Open is 13, with machine and start
 abbrev pub judged : Judgement → Reply
 judged fits = answer 0 []
 judged (late machine start length demand) = answer 0 (machine ∷ start ∷ length ∷ demand ∷ [])
 judged (opened machine start) = answer 13 (machine ∷ start ∷ [])
-
--- the paper's number and values for each answer of `judge`
-abbrev pub paper : Verdict → Reply
-paper Fits = answer 0 []
-paper (Late w) = answer 0 (w .machine ∷ w .start ∷ w .length ∷ w .demand ∷ [])
-paper (Open machine start) = answer 13 (machine ∷ start ∷ [])
-paper (Refused r) = refused r
 
 -- the reply of `judge`: the refusal under rules 1 to 9, or the verdict
 abbrev pub verdictReply : List ℕ → Reply

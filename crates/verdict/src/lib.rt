@@ -9,26 +9,11 @@ ghost use Rattle.model.specs.Run.{Safe};
 ghost use Rattle.model.specs.Search.{firstOf};
 ghost use Rattle.model.specs.Verdict.{machineGives};
 ghost use Rattle.sheet.specs.Format.{machineCount, decode};
-ghost use Rattle.verdict.specs.Reply.{paper, verdictReply};
+ghost use Rattle.verdict.specs.Reply.{verdictReply};
+ghost use Rattle.reply.specs.Verdict.{paper};
 ghost use Rattle.verdict.specs.Inside.{found, Counted};
-use sheet::Checked;
-use sheet::Refusal;
-
-// A window that fails: machine, start, length, and the demand bound there.
-pub struct Window {
-    pub machine: u32,
-    pub start: u32,
-    pub length: u32,
-    pub demand: u32,
-}
-
-// What `judge` answers.
-pub enum Verdict {
-    Fits,
-    Late(Window),
-    Open { machine: u32, start: u32 },
-    Refused(Refusal),
-}
+use reply::Checked;
+use reply::Refusal;
 
 // What a walk has found.
 pub(crate) enum Given {

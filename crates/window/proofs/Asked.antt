@@ -7,12 +7,11 @@ use mathlib.Core.List.{List}
 use mathlib.Core.Option.{none, some}
 use lib.Dec.{leb}
 use borrow.Author.Tests.{leb-true, lt-ltb, le-ltb, ltb-true}
-use Rattle.sheet.specs.declared.Refusal.{Refusal}
+use Rattle.reply.specs.declared.Refusal.{Refusal}
 use Rattle.sheet.specs.Format.{machineCount}
-use Rattle.sheet.specs.Reply.{refusal}
-use Rattle.sheet.specs.Rules.{unless}
+use Rattle.reply.specs.Reply.{refusal, unless}
 use Rattle.sheet.specs.Check.{refusalOf}
-use Rattle.sheet.proofs.First.{unless-none, orElse-none, orElse-found, orElse-clear}
+use Rattle.reply.proofs.Refusals.{unless-none, orElse-none, orElse-found, orElse-clear}
 use Rattle.sheet.proofs.Tests.{both}
 use Rattle.sheet.proofs.Answer.{not-refused}
 use Rattle.window.specs.Window.{windowInRange, rule10, rule11, questionRefusal}

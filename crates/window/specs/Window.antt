@@ -4,13 +4,12 @@ use mathlib.Core.Bool.{Bool, _&&_}
 use mathlib.Core.List.{List, [], _∷_}
 use mathlib.Core.Option.{Option}
 use lib.Dec.{leb, ltb}
-use Rattle.sheet.specs.declared.Refusal.{Refusal}
+use Rattle.reply.specs.declared.Refusal.{Refusal}
 use Rattle.sheet.specs.Format.{machineCount}
-use Rattle.sheet.specs.Reply.{Reply, answer, refusal, refused}
-use Rattle.sheet.specs.Rules.{unless, _orElse_}
+use Rattle.reply.specs.Reply.{Reply, answer, refusal, refused, unless, _orElse_}
 use Rattle.sheet.specs.Check.{refusalOf}
-use Rattle.window.specs.declared.Answer.{Answer}
-use Rattle.window.specs.declared.Answer.the-variants.{Value, Refused}
+use Rattle.reply.specs.declared.Answer.{Answer}
+use Rattle.reply.specs.declared.Answer.the-variants.{Value, Refused}
 
 -- s at most f, f minus s at most 2,048, f at most 1,000,000
 abbrev pub windowInRange : ℕ → ℕ → Bool
@@ -27,8 +26,3 @@ rule11 s f = unless (windowInRange s f) (refusal 11 0 0)
 -- the refusal of a question about machine i of sheet b and the window from s to f, if there is one: 1 to 9, then 10, then 11
 unfoldable pub questionRefusal : List ℕ → ℕ → ℕ → ℕ → Option Refusal
 questionRefusal b i s f = refusalOf b orElse rule10 b i orElse rule11 s f
-
--- the paper's number and values for each answer of a call that returns one number
-abbrev pub paper : Answer → Reply
-paper (Value v) = answer 0 (v ∷ [])
-paper (Refused r) = refused r

@@ -3,19 +3,12 @@
 ghost use mathlib.Core.Path.{_≡_};
 ghost use mathlib.Core.Option.{some};
 ghost use Prim.Native.Nat.{_<_, _^_};
-ghost use Rattle.sheet.specs.Reply.{refusal};
-ghost use Rattle.sheet.specs.Inside.{found};
-ghost use Rattle.window.specs.Window.{questionRefusal};
-ghost use Rattle.window.specs.Window.{windowInRange as Window·inRange};
-use sheet::Checked;
-use sheet::Refusal;
-use sheet::Rule;
-
-// What a call answers that returns one number.
-pub enum Answer {
-    Value(u32),
-    Refused(Refusal),
-}
+ghost use Rattle.reply.specs.Reply.{refusal};
+ghost use Rattle.reply.specs.Inside.{found};
+ghost use Rattle.window.specs.Window.{questionRefusal, windowInRange as Window·inRange};
+use reply::Checked;
+use reply::Refusal;
+use reply::Rule;
 
 // Refusals 1 to 9, then 10 and 11, of a question about a machine and the window from `from` to `to`.
 pub fn question(sheet: &[u8], machine: u32, from: u64, to: u64) -> Rule
@@ -30,24 +23,14 @@ pub fn question(sheet: &[u8], machine: u32, from: u64, to: u64) -> Rule
             hyperperiod: _,
         } => {
             if machines <= machine {
-                return refused(10);
+                return Rule::Broken(reply::placeless(10));
             }
             if !in_range(from, to) {
-                return refused(11);
+                return Rule::Broken(reply::placeless(11));
             }
             Rule::Kept
         }
     }
-}
-
-fn refused(number: u32) -> Rule
-    ensures { λ r. ⌜ found r ≡ some (refusal number 0 0) ⌝ }
-{
-    Rule::Broken(Refusal {
-        number,
-        first: 0,
-        second: 0,
-    })
 }
 
 fn in_range(from: u64, to: u64) -> bool

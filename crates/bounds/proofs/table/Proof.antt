@@ -2,7 +2,7 @@ use Prim.Native.Nat.{_+_}
 use mathlib.Core.Path.{_≡_, refl, sym, _∙_, ap}
 use mathlib.Core.Option.{none}
 use native.Mathlib.Omega.{arith}
-use Rattle.sheet.specs.Inside.{found}
+use Rattle.reply.specs.Inside.{found}
 use Rattle.window.specs.Window.{questionRefusal}
 use Rattle.bounds.proofs.Answer.{question-asks}
 use Rattle.bounds.proofs.Words.{refusal-question, refusal-short, refusal-none, table-refused, table-filled}

@@ -1,4 +1,4 @@
-use Rattle.sheet.specs.Inside.{found}
+use Rattle.reply.specs.Inside.{found}
 use Rattle.window.specs.Window.{questionRefusal}
 use Rattle.window.proofs.Asked.{proper}
 use Rattle.critical.proofs.Words.{holds-room}

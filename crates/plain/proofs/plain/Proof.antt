@@ -1,6 +1,6 @@
 use mathlib.Core.Path.{_≡_, sym, _∙_, ap}
 use mathlib.Core.Option.{none}
-use Rattle.sheet.specs.Inside.{found}
+use Rattle.reply.specs.Inside.{found}
 use Rattle.window.specs.Window.{questionRefusal}
 use Rattle.window.proofs.Asked.{proper}
 use Rattle.plain.proofs.Replied.{question-span, plain-refused, plain-many, plain-taken}

@@ -1,6 +1,7 @@
 use Rattle.sheet.proofs.Answer.{check-broken, check-nine, check-accepts, first-ranged}
-use Rattle.sheet.specs.Inside.{found, firstRules, Ranged}
-use Rattle.sheet.specs.Reply.{answer}
+use Rattle.sheet.specs.Inside.{firstRules, Ranged}
+use Rattle.reply.specs.Inside.{found}
+use Rattle.reply.specs.Reply.{answer, refused}
 use native.Mathlib.Omega.{arith}
 use Prim.Native.Nat.{ℕ}
 use mathlib.Core.Option.{none}
@@ -29,8 +30,14 @@ enum-told c = search needs
 hyperperiod-of-requires : tie.Need-hyperperiod-of-requires
 hyperperiod-of-requires c κs = first-ranged _ (kept c)
 
+placeless-requires : tie.Need-placeless-requires
+placeless-requires c κs = search needs
+
 returns-2 : tie.Need-returns-2
-returns-2 c = sym (check-nine _ (kept (c .before .before)) (c .before .hyperperiod-of .ensures .above (c .if1 .taken)))
+returns-2 c =
+    let long = c .before in
+    ap refused (c .placeless .ensures)
+    ∙ sym (check-nine _ (kept (long .before .before)) (long .before .hyperperiod-of .ensures .above (long .if1 .taken)))
 
 machine-count-requires : tie.Need-machine-count-requires
 machine-count-requires c κs = omega (arith, first-ranged _ (kept (c .before .before)) .filled .entered .laid .long .0)
@@ -53,6 +60,7 @@ check-spec =
     returns
     enum-told
     hyperperiod-of-requires
+    placeless-requires
     returns-2
     machine-count-requires
     cast-t8

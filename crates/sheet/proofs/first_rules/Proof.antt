@@ -1,8 +1,10 @@
 use Rattle.sheet.proofs.Answer.{trailer-laid}
 use Rattle.sheet.proofs.Accepted.{entered, filled}
-use Rattle.sheet.proofs.First.{orElse-found, orElse-clear}
-use Rattle.sheet.specs.Inside.{found, trailerRules, firstRules, Laid, Entered, Filled}
-use Rattle.sheet.specs.Rules.{_orElse_, rule5, rule6, rule7, rule8}
+use Rattle.reply.proofs.Refusals.{orElse-found, orElse-clear}
+use Rattle.sheet.specs.Inside.{trailerRules, firstRules, Laid, Entered, Filled}
+use Rattle.reply.specs.Inside.{found}
+use Rattle.sheet.specs.Rules.{rule5, rule6, rule7, rule8}
+use Rattle.reply.specs.Reply.{_orElse_}
 use mathlib.Core.Option.{none}
 use mathlib.Core.Path.{_≡_, sym, _∙_, ap}
 use borrow.Author.Needs.{needs}

@@ -1,4 +1,4 @@
-use Rattle.verdict.specs.Reply.{paper}
+use Rattle.reply.specs.Verdict.{paper}
 use Rattle.report.proofs.Fitting.{verdict-put, verdict-never}
 use Rattle.model.specs.Verdict.{Fits, Late, Open}
 use mathlib.Core.Path.{refl, sym, ap}

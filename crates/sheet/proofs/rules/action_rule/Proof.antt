@@ -1,5 +1,6 @@
 use Rattle.model.proofs.Search.{Clear, clear-begin, clear-found, clear-more, clear-end}
-use Rattle.sheet.specs.Inside.{found, keepsIn}
+use Rattle.sheet.specs.Inside.{keepsIn}
+use Rattle.reply.specs.Inside.{found}
 use Rattle.sheet.specs.Rules.{machineRefusal}
 use borrow.Author.Needs.{needs}
 use native.Mathlib.Omega.{arith}

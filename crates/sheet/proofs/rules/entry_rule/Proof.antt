@@ -1,5 +1,5 @@
 use Rattle.model.proofs.Search.{Clear, clear-begin, clear-found, clear-more, clear-end}
-use Rattle.sheet.proofs.First.{broken-here, kept-here}
+use Rattle.reply.proofs.Refusals.{broken-here, kept-here}
 use Rattle.sheet.specs.Rules.{entryRefusal}
 use native.Mathlib.Omega.{arith}
 use mathlib.Core.Path.{_≡_, sym, _∙_}

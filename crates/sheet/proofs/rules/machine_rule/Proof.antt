@@ -1,7 +1,7 @@
 use Rattle.sheet.proofs.Walk.{action-inside, action-read}
 use Rattle.sheet.proofs.Tests.{keeps-read}
 use Rattle.model.proofs.Search.{Clear, clear-begin, clear-found, clear-more, clear-end}
-use Rattle.sheet.proofs.First.{broken-here, kept-here}
+use Rattle.reply.proofs.Refusals.{broken-here, kept-here}
 use Rattle.sheet.specs.Inside.{keepsIn}
 use Rattle.sheet.specs.Rules.{actionRefusal}
 use Rattle.sheet.specs.Format.{decode}

@@ -1,6 +1,6 @@
 use Rattle.sheet.proofs.Tests.{begin-next, end-broken, end-kept}
 use Rattle.model.proofs.Search.{Clear, clear-begin, clear-found, clear-more, clear-end}
-use Rattle.sheet.proofs.First.{equal-broken, equal-kept, orElse-found, orElse-clear}
+use Rattle.reply.proofs.Refusals.{equal-broken, equal-kept, orElse-found, orElse-clear}
 use Rattle.sheet.specs.Rules.{actionsBefore, offsetRefusal}
 use Rattle.model.specs.Search.{firstOf}
 use Rattle.sheet.specs.Format.{machineCount}

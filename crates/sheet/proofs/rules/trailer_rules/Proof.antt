@@ -1,13 +1,15 @@
-use Rattle.sheet.proofs.First.{broken-here, kept-here, orElse-found, orElse-clear}
+use Rattle.reply.proofs.Refusals.{broken-here, kept-here, orElse-found, orElse-clear}
 use Rattle.sheet.proofs.Tests.{between-true}
 use Rattle.sheet.specs.Format.{machineCount}
 use Rattle.sheet.specs.Inside.{trailerRules}
-use Rattle.sheet.specs.Rules.{_orElse_, between, rule2, rule3, rule4}
+use Rattle.sheet.specs.Rules.{between, rule2, rule3, rule4}
+use Rattle.reply.specs.Reply.{_orElse_}
 use Prim.Native.Nat.{_≤_}
 use borrow.Author.Needs.{needs}
 use borrow.Author.Tests.{not-false}
 use lib.ListN.{length}
 use native.Mathlib.Omega.{arith}
+use mathlib.Core.Option.{some}
 use mathlib.Core.Path.{_≡_, sym, _∙_, ap}
 use Rattle.sheet.proofs.rules.trailer_rules.Statement.{statement}
 use Rattle.sheet.proofs.rules.trailer_rules.Tie as tie
@@ -41,24 +43,24 @@ past-three c =
 between-requires : tie.Need-between-requires
 between-requires c κs = search needs
 
-broken-requires : tie.Need-broken-requires
-broken-requires c κs = search needs
+placeless-requires : tie.Need-placeless-requires
+placeless-requires c κs = search needs
 
 returns : tie.Need-returns
 returns c =
-    c .broken .ensures
+    ap some (c .placeless .ensures)
     ∙ sym (orElse-found _ (broken-here _ _ (c .before .before .between .ensures) (c .before .if1 .taken)))
 
 marked-requires : tie.Need-marked-requires
 marked-requires c κs = omega (arith, long c)
 
-broken-requires-2 : tie.Need-broken-requires-2
-broken-requires-2 c κs = search needs
+placeless-requires-2 : tie.Need-placeless-requires-2
+placeless-requires-2 c κs = search needs
 
 returns-2 : tie.Need-returns-2
 returns-2 c =
     let broken = broken-here _ _ (c .before .before .marked .ensures) (c .before .if2 .taken) in
-    c .broken2 .ensures ∙ sym (past-one (c .before .before .before) ∙ orElse-found _ broken)
+    ap some (c .placeless2 .ensures) ∙ sym (past-one (c .before .before .before) ∙ orElse-found _ broken)
 
 machine-count-requires : tie.Need-machine-count-requires
 machine-count-requires c κs = omega (arith, long (c .before .before))
@@ -66,24 +68,24 @@ machine-count-requires c κs = omega (arith, long (c .before .before))
 between-requires-2 : tie.Need-between-requires-2
 between-requires-2 c κs = search needs
 
-broken-requires-3 : tie.Need-broken-requires-3
-broken-requires-3 c κs = search needs
+placeless-requires-3 : tie.Need-placeless-requires-3
+placeless-requires-3 c κs = search needs
 
 returns-3 : tie.Need-returns-3
 returns-3 c =
     let broken = broken-here _ _ (counted (c .before .before)) (c .before .if3 .taken) in
-    c .broken3 .ensures ∙ sym (past-two (c .before .before .before .before) ∙ orElse-found _ broken)
+    ap some (c .placeless3 .ensures) ∙ sym (past-two (c .before .before .before .before) ∙ orElse-found _ broken)
 
 trailer-in-range-requires : tie.Need-trailer-in-range-requires
 trailer-in-range-requires c κs = omega (arith, long (c .before .before .before .before .before))
 
-broken-requires-4 : tie.Need-broken-requires-4
-broken-requires-4 c κs = search needs
+placeless-requires-4 : tie.Need-placeless-requires-4
+placeless-requires-4 c κs = search needs
 
 returns-4 : tie.Need-returns-4
 returns-4 c =
     let broken = broken-here _ _ (c .before .before .trailer-in-range .ensures) (c .before .if4 .taken) in
-    c .broken4 .ensures ∙ sym (past-three (c .before .before .before) ∙ broken)
+    ap some (c .placeless4 .ensures) ∙ sym (past-three (c .before .before .before) ∙ broken)
 
 returns-5 : tie.Need-returns-5
 returns-5 c =
@@ -94,16 +96,16 @@ trailer-rules-spec =
     tie.close
     (tie.spec
     between-requires
-    broken-requires
+    placeless-requires
     returns
     marked-requires
-    broken-requires-2
+    placeless-requires-2
     returns-2
     machine-count-requires
     between-requires-2
-    broken-requires-3
+    placeless-requires-3
     returns-3
     trailer-in-range-requires
-    broken-requires-4
+    placeless-requires-4
     returns-4
     returns-5)

@@ -1,0 +1,10 @@
+-- What the contracts of inner functions cite, and no reader has to believe.
+use mathlib.Core.Option.{Option, none, some}
+use Rattle.reply.specs.declared.Refusal.{Refusal}
+use Rattle.reply.specs.declared.Rule.{Rule}
+use Rattle.reply.specs.declared.Rule.the-variants.{Kept, Broken}
+
+-- what a rule's function answers, as its definition has it
+abbrev pub found : Rule → Option Refusal
+found Kept = none
+found (Broken r) = some r

@@ -1,0 +1,7 @@
+pub mod Reply
+pub mod Lent
+pub mod Checked
+pub mod Answer
+pub mod Tabled
+pub mod Verdict
+pub mod Inside

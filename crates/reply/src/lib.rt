@@ -1,0 +1,62 @@
+// What calls answer: a refusal with its number and place, or what a call gives where nothing is refused.
+// Definitions: specs/Reply.antt and Lent.antt, and a file for each answer.
+ghost use mathlib.Core.Path.{_≡_};
+ghost use Rattle.reply.specs.Reply.{refusal};
+
+// Why a call is refused: the number of the reply, and its place.
+pub struct Refusal {
+    pub number: u32,
+    pub first: u32,
+    pub second: u32,
+}
+
+// What a rule says.
+pub enum Rule {
+    Kept,
+    Broken(Refusal),
+}
+
+// What `check` answers.
+pub enum Checked {
+    Accepted { machines: u32, hyperperiod: u32 },
+    Refused(Refusal),
+}
+
+// What a call answers that returns one number.
+pub enum Answer {
+    Value(u32),
+    Refused(Refusal),
+}
+
+// What `table` answers.
+pub enum Tabled {
+    Filled,
+    Refused(Refusal),
+}
+
+// A window that fails: machine, start, length, and the demand bound there.
+pub struct Window {
+    pub machine: u32,
+    pub start: u32,
+    pub length: u32,
+    pub demand: u32,
+}
+
+// What `judge` answers.
+pub enum Verdict {
+    Fits,
+    Late(Window),
+    Open { machine: u32, start: u32 },
+    Refused(Refusal),
+}
+
+// A refusal without a place.
+pub fn placeless(number: u32) -> Refusal
+    ensures { λ r. ⌜ r ≡ refusal number 0 0 ⌝ }
+{
+    Refusal {
+        number,
+        first: 0,
+        second: 0,
+    }
+}
