@@ -2,31 +2,24 @@
 -- result satisfies a contract.
 -- Assumes nothing.
 use Prim.Native.Nat.{ℕ, _+_, _-_}
-use mathlib.Core.Path.{_≡_, sym, _∙_, ap}
+use mathlib.Core.Path.{_≡_}
 use mathlib.Core.List.{List}
-use mathlib.Core.Option.{Option, none, some}
+use mathlib.Core.Option.{none}
 use native.Mathlib.Omega.{arith}
 use Rattle.model.specs.Machine.{machineOf}
 use Rattle.model.specs.Legal.{IsRequestBound, IsDemandBound}
 use Rattle.model.specs.Reckon.{request, demand}
 use Rattle.model.proofs.Bounds.{request-is, demand-is}
-use Rattle.reply.specs.declared.Refusal.{Refusal}
-use Rattle.sheet.specs.Format.{decode}
-use Rattle.reply.specs.Reply.{Reply, refused, _otherwise_}
 use Rattle.reply.specs.declared.Answer.{Answer}
-use Rattle.reply.specs.declared.Answer.the-variants.{Value, Refused}
-use Rattle.window.specs.Window.{questionRefusal}
+use Rattle.reply.specs.declared.Answer.the-variants.{Value}
 use Rattle.reply.specs.Answer.{paper}
+use Rattle.reply.proofs.Refusals.{otherwise-answered}
+use Rattle.reply.proofs.Unique.{answer-unique}
+use Rattle.sheet.specs.Format.{decode}
+use Rattle.window.specs.Window.{questionRefusal}
 use Rattle.window.proofs.Asked.{proper}
 use Rattle.bounds.specs.Bounds.{requestReply, demandReply}
 use Rattle.bounds.specs.Inside.{Asks}
-
--- the refusal, or the answer where there is none
-pub otherwise-refused : {x : Option Refusal} {r : Refusal} (reply : Reply) → x ≡ some r → refused r ≡ x otherwise reply
-otherwise-refused reply e = sym (ap (λ y. y otherwise reply) e)
-
-pub otherwise-answered : {x : Option Refusal} (reply : Reply) → x ≡ none → reply ≡ x otherwise reply
-otherwise-answered reply e = sym (ap (λ y. y otherwise reply) e)
 
 -- a question that is not refused is proper
 module _ (b : List ℕ) (i s f : ℕ) (kept : questionRefusal b i s f ≡ none) where
@@ -50,15 +43,6 @@ module _ (b : List ℕ) (i s f : ℕ) (kept : questionRefusal b i s f ≡ none) 
   demand-answer e = rw e (otherwise-answered _ kept, demand-is (machineOf (decode b) i) s (f - s) f between)
 
 -- no second result
-paper-injective : (r q : Answer) → paper r ≡ paper q → r ≡ q
-paper-injective (Value v) (Value u) e = cc
-paper-injective (Value v) (Refused q) e = absurd (let z : _≡_ {A = ℕ} 0 1 = cc in omega arith)
-paper-injective (Refused r) (Value u) e = absurd (let z : _≡_ {A = ℕ} 0 1 = cc in omega arith)
-paper-injective (Refused r) (Refused q) e = cc
-
-pub answer-unique : {reply : Reply} (r q : Answer) → paper r ≡ reply → paper q ≡ reply → r ≡ q
-answer-unique r q e g = paper-injective r q (e ∙ sym g)
-
 module _ (b : List ℕ) (i s f : ℕ) (r q : Answer) where
   pub request-unique : paper r ≡ requestReply b i s f → paper q ≡ requestReply b i s f → r ≡ q
   request-unique = answer-unique r q

@@ -13,8 +13,8 @@ use Rattle.model.specs.Machine.{Machine}
 use Rattle.model.specs.Legal.{asked}
 use Rattle.model.specs.Reckon.{request}
 use Rattle.model.specs.Inside.{IsRow}
-use Rattle.bounds.specs.Table.{listed, requestTable}
 use Rattle.reply.specs.Lent.{inFront}
+use Rattle.bounds.specs.Table.{listed, requestTable}
 
 module _ (f : ℕ → ℕ) where
   pub listed-length : (n : ℕ) → length (listed f n) ≡ n

@@ -12,15 +12,16 @@ use Rattle.model.specs.Machine.{Machine, machineOf}
 use Rattle.model.specs.Reckon.{request}
 use Rattle.model.proofs.Bounds.{request-is}
 use Rattle.reply.specs.declared.Refusal.{Refusal}
-use Rattle.sheet.specs.Format.{decode}
-use Rattle.reply.specs.Reply.{refusal, unless}
-use Rattle.reply.proofs.Refusals.{orElse-found, orElse-clear, otherwise-refused, otherwise-answered}
-use Rattle.window.specs.Window.{questionRefusal}
 use Rattle.reply.specs.declared.Tabled.{Tabled}
 use Rattle.reply.specs.declared.Tabled.the-variants.{Filled, Refused}
-use Rattle.bounds.specs.Table.{tableRefusal, tableReply, withTable, tableWords, HoldsBounds}
+use Rattle.reply.specs.Reply.{refusal, unless}
 use Rattle.reply.specs.Lent.{unlessRefused}
 use Rattle.reply.specs.Tabled.{paper}
+use Rattle.reply.proofs.Refusals.{orElse-found, orElse-clear, otherwise-refused, otherwise-answered}
+use Rattle.reply.proofs.Unique.{tabled-unique}
+use Rattle.sheet.specs.Format.{decode}
+use Rattle.window.specs.Window.{questionRefusal}
+use Rattle.bounds.specs.Table.{tableRefusal, tableReply, withTable, tableWords, HoldsBounds}
 use Rattle.bounds.proofs.Filling.{listed-first}
 
 module _ (b : List ℕ) (i s n lent : ℕ) where
@@ -61,13 +62,7 @@ module _ (b : List ℕ) (i s n : ℕ) (words : List ℕ) where
       bound k l = rw (written, listed-first (request m s) (n + 1) _ k (omega arith)) (request-is m s k (s + k) refl)
 
 -- no second result, and no second memory
-paper-injective : (r q : Tabled) → paper r ≡ paper q → r ≡ q
-paper-injective Filled Filled e = refl
-paper-injective Filled (Refused q) e = absurd (let z : _≡_ {A = ℕ} 0 1 = cc in omega arith)
-paper-injective (Refused r) Filled e = absurd (let z : _≡_ {A = ℕ} 0 1 = cc in omega arith)
-paper-injective (Refused r) (Refused q) e = cc
-
 pub table-unique : (b : List ℕ) (i s n : ℕ) (words : List ℕ) (r q : Tabled) (after other : List ℕ)
     → paper r ≡ tableReply b i s n words → paper q ≡ tableReply b i s n words
     → after ≡ tableWords b i s n words → other ≡ tableWords b i s n words → (r ≡ q) × (after ≡ other)
-table-unique b i s n words r q after other e g h k = (paper-injective r q (e ∙ sym g), h ∙ sym k)
+table-unique b i s n words r q after other e g h k = (tabled-unique r q e g, h ∙ sym k)

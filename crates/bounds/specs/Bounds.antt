@@ -3,10 +3,8 @@ use Prim.Native.Nat.{ℕ, _-_}
 use mathlib.Core.List.{List, [], _∷_}
 use Rattle.model.specs.Machine.{machineOf}
 use Rattle.model.specs.Reckon.{request, demand}
-use Rattle.sheet.specs.Format.{decode}
 use Rattle.reply.specs.Reply.{Reply, answer, _otherwise_}
-use Rattle.reply.specs.declared.Answer.{Answer}
-use Rattle.reply.specs.declared.Answer.the-variants.{Value, Refused}
+use Rattle.sheet.specs.Format.{decode}
 use Rattle.window.specs.Window.{questionRefusal}
 
 -- of machine i of sheet b: the request bound of [s, f)

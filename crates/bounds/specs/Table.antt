@@ -2,18 +2,18 @@
 -- afterwards.
 use Prim.Native.Nat.{ℕ, zero, suc, _+_, _≤_}
 use mathlib.Core.List.{List, [], _∷_, _++_}
-use mathlib.Core.Option.{Option, none, some}
-use lib.Dec.{leb}
-use lib.ListN.{length, getD, drop}
+use mathlib.Core.Option.{Option}
+use lib.ListN.{length, getD}
 use Rattle.model.specs.Machine.{Machine, machineOf}
 use Rattle.model.specs.Legal.{IsRequestBound}
 use Rattle.model.specs.Reckon.{request}
 use Rattle.reply.specs.declared.Refusal.{Refusal}
-use Rattle.sheet.specs.Format.{decode}
-use Rattle.reply.specs.Reply.{Reply, answer, refusal, refused, unless, _orElse_, _otherwise_}
-use Rattle.window.specs.Window.{questionRefusal}
 use Rattle.reply.specs.declared.Tabled.{Tabled}
 use Rattle.reply.specs.declared.Tabled.the-variants.{Filled, Refused}
+use Rattle.reply.specs.Reply.{Reply, answer, _orElse_, _otherwise_}
+use Rattle.reply.specs.Lent.{rule12, inFront, unlessRefused}
+use Rattle.sheet.specs.Format.{decode}
+use Rattle.window.specs.Window.{questionRefusal}
 
 -- f 0 to f (n - 1), in a list
 unfoldable pub listed : (ℕ → ℕ) → ℕ → List ℕ

@@ -6,16 +6,16 @@ ghost use lib.ListN.{length as ListN·length};
 ghost use Rattle.model.specs.Machine.{machineOf};
 ghost use Rattle.model.specs.Legal.{IsRequestBound, IsDemandBound};
 ghost use Rattle.model.specs.Reckon.{request as Reckon·request, demand as Reckon·demand};
+ghost use Rattle.reply.specs.Answer.{paper, Figure};
+ghost use Rattle.reply.specs.Tabled.{paper as Table·paper};
 ghost use Rattle.sheet.specs.Format.{decode};
 ghost use Rattle.walk.specs.Inside.{machineAt, IsEntry};
-ghost use Rattle.reply.specs.Answer.{paper, Figure};
 ghost use Rattle.bounds.specs.Bounds.{requestReply, demandReply};
 ghost use Rattle.bounds.specs.Table.{tableReply, withTable, tableWords, HoldsBounds};
-ghost use Rattle.reply.specs.Tabled.{paper as Table·paper};
 ghost use Rattle.bounds.specs.Inside.{Asks, IsFront};
 use reply::Answer;
-use reply::Refusal;
 use reply::Rule;
+use reply::Tabled;
 use walk::Entry;
 
 // The request bound of [from, to) of a machine.

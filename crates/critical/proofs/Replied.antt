@@ -14,19 +14,19 @@ use Rattle.model.specs.Critical.{IsCritical, critical}
 use Rattle.model.proofs.Names.{cost-is}
 use Rattle.model.proofs.Critical.{critical-is}
 use Rattle.reply.specs.declared.Refusal.{Refusal}
-use Rattle.sheet.specs.Format.{decode}
-use Rattle.reply.specs.Reply.{answer, refusal, unless}
-use Rattle.reply.proofs.Refusals.{orElse-found, orElse-clear, otherwise-refused, otherwise-answered}
-use Rattle.walk.specs.declared.Entry.{Entry}
-use Rattle.walk.specs.Inside.{machineAt}
 use Rattle.reply.specs.declared.Answer.{Answer}
 use Rattle.reply.specs.declared.Answer.the-variants.{Value, Refused}
-use Rattle.window.specs.Window.{questionRefusal}
+use Rattle.reply.specs.Reply.{answer, refusal, unless}
+use Rattle.reply.specs.Lent.{inFront, unlessRefused}
 use Rattle.reply.specs.Answer.{paper}
+use Rattle.reply.proofs.Refusals.{orElse-found, orElse-clear, otherwise-refused, otherwise-answered}
+use Rattle.reply.proofs.Unique.{answer-unique}
+use Rattle.sheet.specs.Format.{decode}
+use Rattle.window.specs.Window.{questionRefusal}
 use Rattle.window.specs.Inside.{Proper}
 use Rattle.window.proofs.Asked.{proper}
-use Rattle.reply.specs.Lent.{inFront, unlessRefused}
-use Rattle.reply.proofs.Unique.{answer-unique}
+use Rattle.walk.specs.declared.Entry.{Entry}
+use Rattle.walk.specs.Inside.{machineAt}
 use Rattle.critical.specs.Critical.{sequenceOf, wordsOf, criticalRefusal, criticalReply, criticalWords}
 use Rattle.critical.specs.Critical.{pairsIn, HoldsCritical}
 use Rattle.critical.specs.Inside.{Holds}

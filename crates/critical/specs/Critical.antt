@@ -9,12 +9,12 @@ use Rattle.model.specs.Legal.{Pair}
 use Rattle.model.specs.Reckon.{pair}
 use Rattle.model.specs.Critical.{IsCritical, critical}
 use Rattle.reply.specs.declared.Refusal.{Refusal}
-use Rattle.sheet.specs.Format.{decode}
-use Rattle.reply.specs.Reply.{Reply, answer, _orElse_, _otherwise_}
 use Rattle.reply.specs.declared.Answer.{Answer}
-use Rattle.window.specs.Window.{questionRefusal}
-use Rattle.reply.specs.Answer.{Figure}
+use Rattle.reply.specs.Reply.{Reply, answer, _orElse_, _otherwise_}
 use Rattle.reply.specs.Lent.{rule12, inFront, unlessRefused}
+use Rattle.reply.specs.Answer.{Figure}
+use Rattle.sheet.specs.Format.{decode}
+use Rattle.window.specs.Window.{questionRefusal}
 
 -- the critical sequence of [s, f) of machine i of sheet b
 unfoldable pub sequenceOf : List ℕ → ℕ → ℕ → ℕ → List Pair

@@ -6,13 +6,12 @@ mod forward;
 ghost use mathlib.Core.Path.{_≡_};
 ghost use lib.ListN.{length};
 ghost use Rattle.model.specs.Machine.{machineOf};
-ghost use Rattle.sheet.specs.Format.{decode};
 ghost use Rattle.reply.specs.Answer.{paper};
+ghost use Rattle.sheet.specs.Format.{decode};
 ghost use Rattle.window.specs.Inside.{Proper};
 ghost use Rattle.critical.specs.Critical.{sequenceOf, criticalReply, criticalWords, HoldsCritical};
 ghost use Rattle.critical.specs.Inside.{Marked, markedSequence, Holds};
 use reply::Answer;
-use reply::Refusal;
 use reply::Rule;
 use walk::Entry;
 

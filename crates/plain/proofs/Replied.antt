@@ -3,7 +3,7 @@
 -- Assumes nothing.
 use Prim.Native.Nat.{ℕ, _+_, _-_, _≤_, _<_}
 use mathlib.Core.Path.{_≡_, refl, sym, _∙_, ap}
-use mathlib.Core.List.{List}
+use mathlib.Core.List.{List, [], _∷_}
 use mathlib.Core.Option.{Option, none, some}
 use native.Mathlib.Omega.{arith}
 use lib.Dec.{leb}
@@ -17,20 +17,17 @@ use Rattle.model.proofs.Largest.{largest-unique}
 use Rattle.model.proofs.Bounds.{request-is}
 use Rattle.model.proofs.Row.{row-request}
 use Rattle.reply.specs.declared.Refusal.{Refusal}
-use Rattle.sheet.specs.Format.{decode}
-use Rattle.reply.specs.Reply.{refusal, unless, _orElse_}
-use Rattle.reply.proofs.Refusals.{orElse-found, orElse-clear, otherwise-refused, otherwise-answered}
-use Rattle.walk.specs.declared.Entry.{Entry}
-use Rattle.walk.specs.Inside.{machineAt}
 use Rattle.reply.specs.declared.Answer.{Answer}
 use Rattle.reply.specs.declared.Answer.the-variants.{Value, Refused}
-use Rattle.window.specs.Window.{questionRefusal}
+use Rattle.reply.specs.Reply.{answer, refusal, unless, _orElse_, _otherwise_}
 use Rattle.reply.specs.Answer.{paper, Figure}
-use Rattle.window.proofs.Asked.{proper}
-use Rattle.reply.specs.declared.Tabled.the-variants.{Filled}
-use Rattle.bounds.specs.Bounds.{requestReply}
-use Rattle.bounds.specs.Table.{HoldsBounds}
+use Rattle.reply.proofs.Refusals.{orElse-found, orElse-clear, otherwise-refused, otherwise-answered}
 use Rattle.reply.proofs.Unique.{answer-unique}
+use Rattle.sheet.specs.Format.{decode}
+use Rattle.window.specs.Window.{questionRefusal}
+use Rattle.window.proofs.Asked.{proper}
+use Rattle.walk.specs.declared.Entry.{Entry}
+use Rattle.walk.specs.Inside.{machineAt}
 use Rattle.plain.specs.Plain.{instants, rule14, plainRefusal, plainReply}
 use Rattle.plain.specs.Inside.{Span}
 
@@ -82,12 +79,13 @@ orElse-nothing none = refl
 orElse-nothing (some r) = refl
 
 pub plain-agrees-request : (b : List ℕ) (i s f : ℕ) (r q : Answer) → instants (machineOf (decode b) i) s (f - s) ≤ 6
-    → paper r ≡ plainReply b i s f → paper q ≡ requestReply b i s f → r ≡ q
+    → paper r ≡ plainReply b i s f
+    → paper q ≡ (questionRefusal b i s f otherwise answer 0 (request (machineOf (decode b) i) s (f - s) ∷ [])) → r ≡ q
 unfolding plainRefusal
 plain-agrees-request b i s f r q l e g =
     let few = le-leb (instants (machineOf (decode b) i) s (f - s)) 6 l in
-    let same : plainReply b i s f ≡ requestReply b i s f = rw (few, orElse-nothing (questionRefusal b i s f)) refl in
-    answer-unique r q (e ∙ same) g
+    let same : plainRefusal b i s f ≡ questionRefusal b i s f = rw (few, orElse-nothing _) refl in
+    answer-unique r q (rw same at e) g
 
 module _ {m : Machine} {s f v : ℕ} (bound : IsRequestBound m s f v) where
   pub plain-agrees-row : {n : ℕ} {row : List ℕ} → s + n ≡ f → Closed m → IsRow m (asked m) s n row
@@ -95,8 +93,8 @@ module _ {m : Machine} {s f v : ℕ} (bound : IsRequestBound m s f v) where
   plain-agrees-row {n} {row} e closed h =
       largest-unique bound (rw (row-request m s n row h closed) (request-is m s n f e))
 
-  pub plain-agrees-table : {n k : ℕ} (words : List ℕ) → s + k ≡ f → k ≤ n → HoldsBounds m s n words Filled
-      → v ≡ getD words k 0
+  pub plain-agrees-table : {n k : ℕ} (words : List ℕ) → s + k ≡ f → k ≤ n
+      → ((j : ℕ) → j ≤ n → IsRequestBound m s (s + j) (getD words j 0)) → v ≡ getD words k 0
   plain-agrees-table {k = k} words e l h = largest-unique bound (rw e at (h k l))
 
 -- no second result

@@ -8,8 +8,8 @@ use Rattle.model.specs.Machine.{Machine, count, machineOf}
 use Rattle.model.specs.Reckon.{instant?, request}
 use Rattle.model.specs.Search.{smallestBelow, isFound}
 use Rattle.reply.specs.declared.Refusal.{Refusal}
-use Rattle.sheet.specs.Format.{decode}
 use Rattle.reply.specs.Reply.{Reply, answer, refusal, unless, _orElse_, _otherwise_}
+use Rattle.sheet.specs.Format.{decode}
 use Rattle.window.specs.Window.{questionRefusal}
 
 -- t is an instant of the machine: some action has one there

@@ -7,11 +7,10 @@ mod instant;
 ghost use mathlib.Core.Path.{_≡_};
 ghost use Rattle.model.specs.Machine.{machineOf};
 ghost use Rattle.model.specs.Legal.{IsRequestBound};
-ghost use Rattle.sheet.specs.Format.{decode};
 ghost use Rattle.reply.specs.Answer.{paper, Figure};
+ghost use Rattle.sheet.specs.Format.{decode};
 ghost use Rattle.plain.specs.Plain.{plainReply};
 use reply::Answer;
-use reply::Refusal;
 use reply::Rule;
 
 // The request bound of [from, to) of a machine; 14 where the window holds more than 6 instants.

@@ -2,11 +2,9 @@
 use Prim.Native.Nat.{ℕ}
 use mathlib.Core.List.{List, [], _∷_}
 use Rattle.model.specs.Verdict.{Judgement, verdict, Fits as fits, Late as late, Open as opened}
+use Rattle.reply.specs.Reply.{Reply, answer, _otherwise_}
 use Rattle.sheet.specs.Format.{decode}
-use Rattle.reply.specs.Reply.{Reply, answer, refused, _otherwise_}
 use Rattle.sheet.specs.Check.{refusalOf}
-use Rattle.reply.specs.declared.Verdict.{Verdict}
-use Rattle.reply.specs.declared.Verdict.the-variants.{Fits, Late, Open, Refused}
 
 -- Fits has no number in the table and no figures; Late has its four; Open is 13, with machine and start
 abbrev pub judged : Judgement → Reply

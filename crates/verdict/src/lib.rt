@@ -8,12 +8,13 @@ ghost use mathlib.Core.Path.{_≡_};
 ghost use Rattle.model.specs.Run.{Safe};
 ghost use Rattle.model.specs.Search.{firstOf};
 ghost use Rattle.model.specs.Verdict.{machineGives};
+ghost use Rattle.reply.specs.Verdict.{paper};
 ghost use Rattle.sheet.specs.Format.{machineCount, decode};
 ghost use Rattle.verdict.specs.Reply.{verdictReply};
-ghost use Rattle.reply.specs.Verdict.{paper};
 ghost use Rattle.verdict.specs.Inside.{found, Counted};
 use reply::Checked;
-use reply::Refusal;
+use reply::Verdict;
+use reply::Window;
 
 // What a walk has found.
 pub(crate) enum Given {

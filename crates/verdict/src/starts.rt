@@ -6,8 +6,8 @@ ghost use Rattle.model.specs.Verdict.{gives, machineGives};
 ghost use Rattle.sheet.specs.Format.{machineCount, decode};
 ghost use Rattle.verdict.specs.Inside.{found, Marked};
 use crate::Given;
-use crate::Window;
 use crate::lines;
+use reply::Window;
 
 // The place after a place, in a circle of h.
 fn place_after(place: usize, h: usize) -> usize

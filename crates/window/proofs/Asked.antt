@@ -8,10 +8,10 @@ use mathlib.Core.Option.{none, some}
 use lib.Dec.{leb}
 use borrow.Author.Tests.{leb-true, lt-ltb, le-ltb, ltb-true}
 use Rattle.reply.specs.declared.Refusal.{Refusal}
-use Rattle.sheet.specs.Format.{machineCount}
 use Rattle.reply.specs.Reply.{refusal, unless}
-use Rattle.sheet.specs.Check.{refusalOf}
 use Rattle.reply.proofs.Refusals.{unless-none, orElse-none, orElse-found, orElse-clear}
+use Rattle.sheet.specs.Format.{machineCount}
+use Rattle.sheet.specs.Check.{refusalOf}
 use Rattle.sheet.proofs.Tests.{both}
 use Rattle.sheet.proofs.Answer.{not-refused}
 use Rattle.window.specs.Window.{windowInRange, rule10, rule11, questionRefusal}
@@ -35,7 +35,8 @@ module _ (b : List ℕ) (i s f : ℕ) where
       → questionRefusal b i s f ≡ some (refusal 11 0 0)
   question-window e l w = in-sheet e l ∙ ap (λ t. unless t (refusal 11 0 0)) w
 
-  pub question-kept : refusalOf b ≡ none → i < machineCount b → windowInRange s f ≡ true → questionRefusal b i s f ≡ none
+  pub question-kept : refusalOf b ≡ none → i < machineCount b → windowInRange s f ≡ true
+      → questionRefusal b i s f ≡ none
   question-kept e l w = in-sheet e l ∙ ap (λ t. unless t (refusal 11 0 0)) w
 
 pub proper : (b : List ℕ) (i s f : ℕ) → questionRefusal b i s f ≡ none → Proper b i s f

@@ -1,15 +1,13 @@
--- Document 01, "Windows" and "Numbered replies": what may be asked about a machine and a window, and one-number answers.
+-- Document 01, "Windows" and "Numbered replies": what may be asked about a machine and a window.
 use Prim.Native.Nat.{ℕ, _+_}
 use mathlib.Core.Bool.{Bool, _&&_}
-use mathlib.Core.List.{List, [], _∷_}
+use mathlib.Core.List.{List}
 use mathlib.Core.Option.{Option}
 use lib.Dec.{leb, ltb}
 use Rattle.reply.specs.declared.Refusal.{Refusal}
+use Rattle.reply.specs.Reply.{refusal, unless, _orElse_}
 use Rattle.sheet.specs.Format.{machineCount}
-use Rattle.reply.specs.Reply.{Reply, answer, refusal, refused, unless, _orElse_}
 use Rattle.sheet.specs.Check.{refusalOf}
-use Rattle.reply.specs.declared.Answer.{Answer}
-use Rattle.reply.specs.declared.Answer.the-variants.{Value, Refused}
 
 -- s at most f, f minus s at most 2,048, f at most 1,000,000
 abbrev pub windowInRange : ℕ → ℕ → Bool
@@ -23,6 +21,6 @@ rule10 b i = unless (ltb i (machineCount b)) (refusal 10 0 0)
 abbrev pub rule11 : ℕ → ℕ → Option Refusal
 rule11 s f = unless (windowInRange s f) (refusal 11 0 0)
 
--- the refusal of a question about machine i of sheet b and the window from s to f, if there is one: 1 to 9, then 10, then 11
+-- the refusal of a question about machine i of sheet b and the window from s to f, if there is one: 1 to 9, 10, 11
 unfoldable pub questionRefusal : List ℕ → ℕ → ℕ → ℕ → Option Refusal
 questionRefusal b i s f = refusalOf b orElse rule10 b i orElse rule11 s f

@@ -1,13 +1,10 @@
-// A question about a machine and a window: what may be asked, and how it is answered.
+// A question about a machine and a window: what may be asked.
 // Definitions: specs/Window.antt.
 ghost use mathlib.Core.Path.{_≡_};
-ghost use mathlib.Core.Option.{some};
 ghost use Prim.Native.Nat.{_<_, _^_};
-ghost use Rattle.reply.specs.Reply.{refusal};
 ghost use Rattle.reply.specs.Inside.{found};
 ghost use Rattle.window.specs.Window.{questionRefusal, windowInRange as Window·inRange};
 use reply::Checked;
-use reply::Refusal;
 use reply::Rule;
 
 // Refusals 1 to 9, then 10 and 11, of a question about a machine and the window from `from` to `to`.

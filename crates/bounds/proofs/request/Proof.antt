@@ -2,10 +2,10 @@ use mathlib.Core.Path.{_≡_, sym, _∙_, ap}
 use mathlib.Core.Option.{none}
 use native.Mathlib.Omega.{arith}
 use Rattle.reply.specs.Inside.{found}
+use Rattle.reply.proofs.Refusals.{otherwise-refused}
 use Rattle.window.specs.Window.{questionRefusal}
 use Rattle.window.proofs.Asked.{proper}
 use Rattle.bounds.proofs.Answer.{window-asks, request-answer}
-use Rattle.reply.proofs.Refusals.{otherwise-refused}
 use borrow.Author.Needs.{needs}
 use Rattle.bounds.proofs.request.Statement.{statement}
 use Rattle.bounds.proofs.request.Tie as tie

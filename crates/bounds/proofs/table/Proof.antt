@@ -33,8 +33,14 @@ returns c =
 enum-told : tie.Need-enum-told
 enum-told c = search needs
 
+placeless-requires : tie.Need-placeless-requires
+placeless-requires c κs = search needs
+
 returns-2 : tie.Need-returns-2
-returns-2 c = table-refused _ _ _ _ _ (refusal-short _ _ _ _ _ (kept (c .before)) (c .if1 .taken))
+returns-2 c =
+    let short = c .before in
+    rw (c .placeless .ensures)
+    (table-refused _ _ _ _ _ (refusal-short _ _ _ _ _ (kept (short .before)) (short .if1 .taken)))
 
 fill-requires : tie.Need-fill-requires
 fill-requires c κs = (question-asks _ _ _ _ (kept (c .before .before)) _ refl, omega (arith, c .before .if1 .left))
@@ -57,6 +63,7 @@ table-spec =
     enum-known-rule
     returns
     enum-told
+    placeless-requires
     returns-2
     fill-requires
     same-length

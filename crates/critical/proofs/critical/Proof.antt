@@ -46,11 +46,17 @@ find-requires c κs = (proper _ _ _ _ (kept (c .before)), refl)
 mul-needed : tie.Need-mul-needed
 mul-needed c = omega (arith, few (c .before))
 
+placeless-requires : tie.Need-placeless-requires
+placeless-requires c κs = search needs
+
 returns-2 : tie.Need-returns-2
 returns-2 c =
-    let told = c .before .before in
-    critical-refused _ _ _ _ _
-    (refusal-short _ _ _ _ _ (kept (told .before .before)) (omega (arith, told .find .ensures .number)))
+    let short = c .before in
+    let told = short .before .before in
+    let asks = kept (told .before .before) in
+    rw (c .placeless .ensures)
+    (critical-refused _ _ _ _ _
+    (refusal-short _ _ _ _ _ asks (omega (arith, short .if1 .taken, told .find .ensures .number))))
 
 array-share-prefix-pairs : tie.Need-array-share-prefix-pairs
 array-share-prefix-pairs c = holds-room (c .before .before .find .ensures)
@@ -91,6 +97,7 @@ critical-spec =
     slice-aggregate-find
     find-requires
     mul-needed
+    placeless-requires
     returns-2
     array-share-prefix-pairs
     slice-aggregate-copy

@@ -34,11 +34,16 @@ entry-of-requires c κs = let p = proper _ _ _ _ (kept c) in (p .accepted, p .kn
 instants-in-requires : tie.Need-instants-in-requires
 instants-in-requires c κs = (c .entry-of .ensures .1, question-span _ _ _ _ (kept (c .before)))
 
+placeless-requires : tie.Need-placeless-requires
+placeless-requires c κs = search needs
+
 returns-2 : tie.Need-returns-2
 returns-2 c =
-    let read = c .before .before in
-    plain-many _ _ _ _ (kept (read .before)) (read .entry-of .result) (read .entry-of .ensures .0)
-    (c .before .instants-in .ensures) (c .if1 .taken)
+    let many = c .before in
+    let read = many .before .before in
+    rw (c .placeless .ensures)
+    (plain-many _ _ _ _ (kept (read .before)) (read .entry-of .result) (read .entry-of .ensures .0)
+    (many .before .instants-in .ensures) (many .if1 .taken))
 
 ask-machine-requires : tie.Need-ask-machine-requires
 ask-machine-requires c κs = instants-in-requires (c .before .before) κs
@@ -59,6 +64,7 @@ plain-spec =
     enum-told
     entry-of-requires
     instants-in-requires
+    placeless-requires
     returns-2
     ask-machine-requires
     returns-3)

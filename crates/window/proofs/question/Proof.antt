@@ -2,7 +2,8 @@ use Rattle.window.proofs.Asked.{question-sheet, question-machine, quest
 use Rattle.sheet.proofs.Answer.{refused-so, accepted-so}
 use native.Mathlib.Omega.{arith}
 use borrow.Author.Tests.{not-true, not-false}
-use mathlib.Core.Path.{_≡_, sym, _∙_}
+use mathlib.Core.Option.{some}
+use mathlib.Core.Path.{sym, _∙_, ap}
 use borrow.Author.Needs.{needs}
 use Rattle.window.proofs.question.Statement.{statement}
 use Rattle.window.proofs.question.Tie as tie
@@ -16,30 +17,33 @@ enum-known-checked c = search needs
 enum-known-checked-2 : tie.Need-enum-known-checked-2
 enum-known-checked-2 c = search needs
 
-refused-requires : tie.Need-refused-requires
-refused-requires c κs = search needs
+placeless-requires : tie.Need-placeless-requires
+placeless-requires c κs = search needs
 
 returns : tie.Need-returns
 returns c =
     let told = c .before .before .before in
     let (none, machines, h) = accepted-so _ (told .before .before .check .ensures) (told .checked2 .given .1) in
-    c .refused .ensures ∙ sym (question-machine _ _ _ _ none (omega (arith, c .before .if1 .taken)))
+    ap some (c .placeless .ensures) ∙ sym (question-machine _ _ _ _ none (omega (arith, c .before .if1 .taken)))
 
 in-range-requires : tie.Need-in-range-requires
 in-range-requires c κs = search needs
 
-refused-requires-2 : tie.Need-refused-requires-2
-refused-requires-2 c κs = search needs
+placeless-requires-2 : tie.Need-placeless-requires-2
+placeless-requires-2 c κs = search needs
 
 returns-2 : tie.Need-returns-2
 returns-2 c =
     let told = c .before .before .before .before .before in
     let (none, machines, h) = accepted-so _ (told .before .before .check .ensures) (told .checked2 .given .1) in
-    c .refused2 .ensures ∙ sym (question-window _ _ _ _ none (omega (arith, c .before .before .before .if1 .left))
+    ap some (c .placeless2 .ensures)
+    ∙ sym (question-window _ _ _ _ none (omega (arith, c .before .before .before .if1 .left))
     (sym (c .before .before .in-range .ensures) ∙ not-true _ (c .before .if2 .taken)))
 
 returns-3 : tie.Need-returns-3
-returns-3 c = sym (question-sheet _ _ _ _ (refused-so _ (c .before .before .before .check .ensures) (c .before .checked .given .1)))
+returns-3 c =
+    let told = c .before in
+    sym (question-sheet _ _ _ _ (refused-so _ (told .before .before .check .ensures) (told .checked .given .1)))
 
 returns-4 : tie.Need-returns-4
 returns-4 c =
@@ -55,10 +59,10 @@ question-spec =
     check-requires
     enum-known-checked
     enum-known-checked-2
-    refused-requires
+    placeless-requires
     returns
     in-range-requires
-    refused-requires-2
+    placeless-requires-2
     returns-2
     returns-3
     returns-4)
