@@ -8,32 +8,31 @@ use mathlib.Core.Option.{Option, none, some}
 use native.Mathlib.Omega.{arith}
 use lib.ListN.{length, take, drop}
 use lib.Seq.{take-at}
-use borrow.Author.Tests.{leb-true, eq-eqb, ne-eqb}
+use borrow.Author.Tests.{eq-eqb, ne-eqb}
 use Rattle.model.specs.Machine.{machineOf}
 use Rattle.reply.specs.declared.Refusal.{Refusal}
-use Rattle.sheet.specs.Format.{decode}
-use Rattle.reply.specs.Reply.{Reply, answer, refused, refusal, _otherwise_}
-use Rattle.sheet.specs.Rules.{same}
-use Rattle.sheet.proofs.Tests.{same-test}
-use Rattle.reply.proofs.Refusals.{orElse-none, unless-none}
 use Rattle.reply.specs.declared.Answer.{Answer}
 use Rattle.reply.specs.declared.Answer.the-variants.{Value, Refused}
-use Rattle.window.specs.Window.{questionRefusal}
-use Rattle.reply.specs.Answer.{paper}
 use Rattle.reply.specs.declared.Tabled.{Tabled}
 use Rattle.reply.specs.declared.Tabled.the-variants.{Filled, Refused as refusedWith}
-use Rattle.bounds.specs.Table.{requestTable, tableRefusal, tableReply, withTable, tableWords}
-use Rattle.reply.specs.Lent.{rule12, unlessRefused, inFront}
+use Rattle.reply.specs.Reply.{Reply, answer, refused, _otherwise_}
+use Rattle.reply.specs.Lent.{unlessRefused, inFront}
+use Rattle.reply.specs.Answer.{paper}
 use Rattle.reply.specs.Tabled.{paper as tabledPaper}
+use Rattle.reply.proofs.Refusals.{orElse-none, enough}
+use Rattle.sheet.specs.Format.{decode}
+use Rattle.sheet.specs.Rules.{same}
+use Rattle.sheet.proofs.Tests.{same-test}
+use Rattle.window.specs.Window.{questionRefusal}
+use Rattle.bounds.specs.Table.{requestTable, tableRefusal, tableReply, withTable, tableWords}
 use Rattle.bounds.proofs.Filling.{listed-length}
 use Rattle.critical.specs.Critical.{sequenceOf, wordsOf, criticalRefusal, criticalReply, criticalWords, pairsIn}
 use Rattle.critical.proofs.Words.{words-pairs}
+use Rattle.text.specs.declared.Printed.{Printed}
 use Rattle.text.specs.Text.{row, readNumber}
-use Rattle.text.specs.Inside.{Put}
-use Rattle.report.specs.declared.Printed.{Printed}
-use Rattle.report.specs.Fit.{refusedLine}
-use Rattle.report.specs.Inside.{Prints}
-use Rattle.report.proofs.Fitting.{Promised, promised-unique}
+use Rattle.text.specs.Lent.{refusedLine}
+use Rattle.text.specs.Inside.{Put, Prints}
+use Rattle.text.proofs.Printing.{Promised, promised-unique}
 use Rattle.question.specs.declared.Kind.{Kind}
 use Rattle.question.specs.declared.Kind.the-variants.{Table, Critical}
 use Rattle.question.specs.declared.Question.{Question}
@@ -53,10 +52,6 @@ answered : {n : ℕ} {figures : List ℕ} (m : ℕ) (others : List ℕ) (x : Opt
     → answer n figures ≡ x otherwise answer m others → (x ≡ none) × (figures ≡ others)
 answered m others none e = (refl, cc)
 answered m others (some r) e = absurd (let z : _≡_ {A = ℕ} 0 1 = cc in omega arith)
-
--- rule 12, of the lent words
-enough : (needed words : ℕ) → rule12 needed words ≡ none → needed ≤ words
-enough needed words e = leb-true needed words (unless-none _ _ e)
 
 -- a reply's text, by its case
 module _ (more : List ℕ) (reply : Reply) {before after : List ℕ} {q : Printed} where

@@ -8,15 +8,15 @@ use lib.ListN.{replicate}
 use Rattle.model.specs.Machine.{machineOf}
 use Rattle.model.specs.Legal.{Pair}
 use Rattle.reply.specs.declared.Refusal.{Refusal}
-use Rattle.sheet.specs.Format.{decode}
 use Rattle.reply.specs.Reply.{Reply, answer, refused}
+use Rattle.sheet.specs.Format.{decode}
 use Rattle.sheet.specs.Rules.{same}
 use Rattle.bounds.specs.Bounds.{requestReply, demandReply}
 use Rattle.bounds.specs.Table.{requestTable, tableReply}
 use Rattle.critical.specs.Critical.{sequenceOf, criticalReply}
 use Rattle.plain.specs.Plain.{plainReply}
 use Rattle.text.specs.Text.{ascii, row, readNumber}
-use Rattle.report.specs.Fit.{refusedLine}
+use Rattle.text.specs.Lent.{refusedLine}
 use Rattle.question.specs.declared.Kind.{Kind}
 use Rattle.question.specs.declared.Kind.the-variants.{Request, Demand, Table, Critical, Plain}
 use Rattle.question.specs.declared.Question.{Question}

@@ -3,10 +3,9 @@ ghost use mathlib.Core.Path.{_≡_};
 ghost use mathlib.Core.List.{[]};
 ghost use Prim.Native.Nat.{_+_, _*_, _≤_};
 ghost use lib.ListN.{length as ListN·length};
-ghost use Rattle.text.specs.Inside.{Put};
-ghost use Rattle.report.specs.Fit.{printedLength, printedRefusal, printed};
-ghost use Rattle.report.specs.Inside.{Prints};
 ghost use Rattle.reply.specs.Answer.{paper};
+ghost use Rattle.text.specs.Lent.{printedLength, printedRefusal, printed};
+ghost use Rattle.text.specs.Inside.{Put, Prints};
 ghost use Rattle.critical.specs.Critical.{pairsIn};
 ghost use Rattle.question.specs.declared.Kind.the-variants.{Table, Critical};
 ghost use Rattle.question.specs.Ask.{kindOf, asks, numberLines, pairLines, refusalIn, replyText};
@@ -14,8 +13,8 @@ ghost use Rattle.question.specs.Ask.{answerText, answerRefusal, askText,
 ghost use Rattle.question.specs.Inside.{named};
 use reply::Answer;
 use reply::Tabled;
-use report::Printed;
 use text::Number;
+use text::Printed;
 
 // What can be asked about a machine and a window.
 pub enum Kind {
@@ -106,8 +105,8 @@ fn print_figure(out: &mut [u8], answer: Answer) -> Printed
         (now (out .exit)) ⌝ }
 {
     match answer {
-        Answer::Value(figure) => report::unrefused(text::put_row(out, 0, figure, &[])),
-        Answer::Refused(refusal) => report::print_refused(out, refusal),
+        Answer::Value(figure) => text::unrefused(text::put_row(out, 0, figure, &[])),
+        Answer::Refused(refusal) => text::print_refused(out, refusal),
     }
 }
 
@@ -149,8 +148,8 @@ fn print_table(out: &mut [u8], sheet: &[u8], machine: u32, from: u32, length: u3
     let mut words = [0u32; 4096];
     let tabled = bounds::table(sheet, machine, from, length, &mut words);
     match tabled {
-        Tabled::Filled => report::unrefused(put_numbers(out, &words[..length as usize + 1])),
-        Tabled::Refused(refusal) => report::print_refused(out, refusal),
+        Tabled::Filled => text::unrefused(put_numbers(out, &words[..length as usize + 1])),
+        Tabled::Refused(refusal) => text::print_refused(out, refusal),
     }
 }
 
@@ -165,9 +164,9 @@ fn print_critical(out: &mut [u8], sheet: &[u8], machine: u32, from: u32, to: u32
     match answer {
         Answer::Value(pairs) => {
             let next = text::put_row(out, 0, pairs, &[]);
-            report::unrefused(put_pairs(out, next, &words, pairs as usize))
+            text::unrefused(put_pairs(out, next, &words, pairs as usize))
         }
-        Answer::Refused(refusal) => report::print_refused(out, refusal),
+        Answer::Refused(refusal) => text::print_refused(out, refusal),
     }
 }
 
@@ -202,7 +201,7 @@ pub fn ask(sheet: &[u8], question: Question, out: &mut [u8]) -> Printed
     ensures { λ _. ⌜ now (out .exit) ≡ printed 65536 (askText (now (sheet .entry)) question) (now (out .entry)) ⌝ }
 {
     if out.len() < 65536 {
-        return report::unrefused(0);
+        return text::unrefused(0);
     }
     let kind = question.kind;
     print_answer(

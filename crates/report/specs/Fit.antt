@@ -1,22 +1,16 @@
 -- Document 01, "The program `fit`": the text of a sheet's check.
 use Prim.Native.Nat.{ℕ, zero, suc}
-use mathlib.Core.Bool.{cond}
 use mathlib.Core.List.{List, [], _∷_, _++_}
 use mathlib.Core.Option.{Option, none, some}
-use lib.Dec.{leb}
-use lib.ListN.{length, drop}
+use lib.ListN.{length}
 use Rattle.model.specs.Machine.{Machine, count, machineOf, hyperperiod}
 use Rattle.model.specs.Reckon.{request}
 use Rattle.model.specs.Verdict.{Judgement, Fits, Late, Open, verdict}
 use Rattle.reply.specs.declared.Refusal.{Refusal}
 use Rattle.sheet.specs.Format.{decode}
-use Rattle.reply.specs.Reply.{refusal}
 use Rattle.sheet.specs.Check.{refusalOf}
 use Rattle.text.specs.Text.{ascii, line}
-
--- a refused sheet prints only REFUSED with number and place
-abbrev pub refusedLine : Refusal → List ℕ
-refusedLine r = line (ascii "REFUSED") (r .number ∷ r .first ∷ r .second ∷ [])
+use Rattle.text.specs.Lent.{refusedLine}
 
 -- an M line has machine, states, actions, request bound of [0, H)
 abbrev pub machineLine : List Machine → ℕ → List ℕ
@@ -40,26 +34,10 @@ abbrev pub acceptedText : List Machine → List ℕ
 acceptedText ms =
     line (ascii "H") (hyperperiod ms ∷ []) ++ (machineLines ms (length ms) ++ verdictLine (verdict ms))
 
+-- a refused sheet prints only REFUSED with number and place
 abbrev pub fitOf : Option Refusal → List Machine → List ℕ
 fitOf (some r) ms = refusedLine r
 fitOf none ms = acceptedText ms
 
 abbrev pub fitText : List ℕ → List ℕ
 fitText b = fitOf (refusalOf b) (decode b)
-
--- a text goes to the start of the lent bytes, where there are `room` of them at least: how many it takes
-unfoldable pub printedLength : ℕ → List ℕ → List ℕ → ℕ
-printedLength room text out = cond (leb room (length out)) (length text) 0
-
--- what they then hold
-unfoldable pub printed : ℕ → List ℕ → List ℕ → List ℕ
-printed room text out = cond (leb room (length out)) (text ++ drop (length text) out) out
-
--- a refusal as it is handed back: where there is none, number 0 at place 0, 0
-abbrev pub handed : Option Refusal → Refusal
-handed none = refusal 0 0 0
-handed (some r) = r
-
--- the refusal that the text prints
-unfoldable pub printedRefusal : ℕ → Option Refusal → List ℕ → Refusal
-printedRefusal room x out = cond (leb room (length out)) (handed x) (handed none)

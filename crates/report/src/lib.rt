@@ -1,16 +1,113 @@
-// The texts of the programs, made in lent bytes. Definitions: specs/Fit.antt and specs/Words.antt.
-mod fits;
-mod words;
+// The text of `fit`, made in lent bytes. Definitions: specs/Fit.antt.
+ghost use mathlib.Core.Path.{_≡_};
+ghost use mathlib.Core.Option.{none};
+ghost use Prim.Native.Nat.{_+_, _*_, _≤_, _<_};
+ghost use lib.ListN.{length};
+ghost use Rattle.model.specs.Machine.{machineOf, hyperperiod};
+ghost use Rattle.model.specs.Reckon.{request};
+ghost use Rattle.model.specs.Verdict.{verdict};
+ghost use Rattle.sheet.specs.Format.{machineCount, decode};
+ghost use Rattle.sheet.specs.Check.{refusalOf};
+ghost use Rattle.text.specs.Lent.{printedLength, printedRefusal, printed};
+ghost use Rattle.text.specs.Inside.{Put};
+ghost use Rattle.report.specs.Fit.{machineLine, machineLines, verdictLine, acceptedText, fitText};
+ghost use Rattle.report.specs.Inside.{Admitted};
+use reply::Answer;
+use reply::Checked;
+use reply::Verdict;
+use sheet::read;
+use text::Printed;
 
-pub use fits::fit;
-pub use fits::print_refused;
-pub use fits::unrefused;
-use reply::Refusal;
-pub use words::explain;
+// The request bound of [0, H) of a machine.
+fn whole_request(sheet: &[u8], machine: usize, h: u32) -> u32
+    requires { ⌜ Admitted (now sheet) h × (machine < machineCount (now sheet)) ⌝ }
+    ensures { λ r. ⌜ r ≡ request (machineOf (decode (now (sheet .entry))) machine) 0
+        (hyperperiod (decode (now (sheet .entry)))) ⌝ }
+{
+    let answer = bounds::request(sheet, machine as u32, 0, h);
+    match answer {
+        Answer::Value(bound) => bound,
+        Answer::Refused(_) => 0,
+    }
+}
 
-// What was printed into lent bytes: the length of the text, and the refusal that it prints, number 0 at place 0, 0
-// where it prints none.
-pub struct Printed {
-    pub length: usize,
-    pub refusal: Refusal,
+// The line of a machine.
+fn put_machine(out: &mut [u8], at: usize, sheet: &[u8], machine: usize, h: u32) -> usize
+    requires { ⌜ Admitted (now sheet) h × (machine < machineCount (now sheet)) × (at + 46 ≤ length (now out)) ⌝ }
+    ensures { λ r. ⌜ Put (now (out .entry)) at (machineLine (decode (now (sheet .entry))) machine) r (now (out .exit))
+        × (r ≤ at + 46) ⌝ }
+{
+    let states = read::states(sheet, machine) as u32;
+    let actions = read::action_count(sheet, machine) as u32;
+    let bound = whole_request(sheet, machine, h);
+    let numbers = [machine as u32, states, actions, bound];
+    text::put_line(out, at, b"M", &numbers)
+}
+
+// The lines of the machines.
+fn put_machines(out: &mut [u8], at: usize, sheet: &[u8], machines: usize, h: u32) -> usize
+    requires { ⌜ Admitted (now sheet) h × (machines ≡ machineCount (now sheet))
+        × (at + 46 * machines ≤ length (now out)) ⌝ }
+    ensures { λ r. ⌜ Put (now (out .entry)) at (machineLines (decode (now (sheet .entry))) machines) r (now (out .exit))
+        × (r ≤ at + 46 * machines) ⌝ }
+{
+    let mut next = at;
+    let mut k = 0;
+    while k < machines {
+        next = put_machine(out, next, sheet, k, h);
+        k += 1;
+    }
+    next
+}
+
+// The line of the verdict.
+fn put_verdict(out: &mut [u8], at: usize, sheet: &[u8]) -> usize
+    requires { ⌜ (refusalOf (now sheet) ≡ none) × (at + 49 ≤ length (now out)) ⌝ }
+    ensures { λ r. ⌜ Put (now (out .entry)) at (verdictLine (verdict (decode (now (sheet .entry)))))
+        r (now (out .exit)) ⌝ }
+{
+    let judged = verdict::judge(sheet);
+    match judged {
+        Verdict::Fits => text::put_bytes(out, at, b"FITS\n"),
+        Verdict::Late(w) => {
+            let numbers = [w.machine, w.start, w.length, w.demand];
+            text::put_line(out, at, b"LATE", &numbers)
+        }
+        Verdict::Open { machine, start } => {
+            let numbers = [machine, start];
+            text::put_line(out, at, b"OPEN", &numbers)
+        }
+        Verdict::Refused(_) => at,
+    }
+}
+
+// The text of an accepted sheet.
+fn put_accepted(out: &mut [u8], sheet: &[u8], machines: usize, h: u32) -> usize
+    requires { ⌜ Admitted (now sheet) h × (machines ≡ machineCount (now sheet)) × (512 ≤ length (now out)) ⌝ }
+    ensures { λ r. ⌜ Put (now (out .entry)) 0 (acceptedText (decode (now (sheet .entry)))) r (now (out .exit)) ⌝ }
+{
+    let numbers = [h];
+    let first = text::put_line(out, 0, b"H", &numbers);
+    let last = put_machines(out, first, sheet, machines, h);
+    put_verdict(out, last, sheet)
+}
+
+// Makes the text of `fit` at the start of the lent bytes and answers its length, and the refusal that it prints. Bytes
+// past the text stay as they were; with fewer than 512 bytes lent nothing is written, and the length is 0.
+pub fn fit(sheet: &[u8], out: &mut [u8]) -> Printed
+    ensures { λ r. ⌜ r .length ≡ printedLength 512 (fitText (now (sheet .entry))) (now (out .entry)) ⌝ }
+    ensures { λ r. ⌜ r .refusal ≡ printedRefusal 512 (refusalOf (now (sheet .entry))) (now (out .entry)) ⌝ }
+    ensures { λ _. ⌜ now (out .exit) ≡ printed 512 (fitText (now (sheet .entry))) (now (out .entry)) ⌝ }
+{
+    if out.len() < 512 {
+        return text::unrefused(0);
+    }
+    let checked = sheet::check(sheet);
+    match checked {
+        Checked::Refused(refusal) => text::print_refused(out, refusal),
+        Checked::Accepted {
+            machines,
+            hyperperiod,
+        } => text::unrefused(put_accepted(out, sheet, machines as usize, hyperperiod)),
+    }
 }

@@ -4,8 +4,11 @@ use mathlib.Core.Path.{_≡_}
 use mathlib.Core.List.{List, _++_}
 use mathlib.Core.Option.{Option, none, some}
 use lib.ListN.{length, take, drop}
+use Rattle.reply.specs.declared.Refusal.{Refusal}
 use Rattle.text.specs.declared.Number.{Number}
 use Rattle.text.specs.declared.Number.the-variants.{Value, Malformed}
+use Rattle.text.specs.declared.Printed.{Printed}
+use Rattle.text.specs.Lent.{handed}
 
 -- the text is put at `at`, everything else stays, and the next piece goes to r
 pub record Put (before : List ℕ) (at : ℕ) (text : List ℕ) (r : ℕ) (after : List ℕ) : Type 0 where
@@ -13,6 +16,11 @@ pub record Put (before : List ℕ) (at : ℕ) (text : List ℕ) (r : ℕ) (after
   pub fits : r ≤ length before
   pub size : length after ≡ length before
   pub says : after ≡ take at before ++ (text ++ drop r before)
+
+-- a text is put at the start of the lent bytes, and the refusal that it prints is handed back
+pub record Prints (before text : List ℕ) (x : Option Refusal) (r : Printed) (after : List ℕ) : Type 0 where
+  pub put : Put before 0 text (r .length) after
+  pub hands : r .refusal ≡ handed x
 
 -- what was read, as its definition has it
 abbrev pub told : Number → Option ℕ

@@ -1,2 +1,4 @@
 pub mod Text
+pub mod Lent
+pub mod Words
 pub mod Inside

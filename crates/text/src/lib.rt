@@ -1,16 +1,31 @@
 // Text written into lent bytes, one piece after another: each function puts its piece at `at`, leaves the
-// bytes before it, and answers where the next piece goes. Definitions: specs/Text.antt.
+// bytes before it, and answers where the next piece goes. Definitions: specs/Text.antt; of a text
+// in lent bytes and of refusals, specs/Lent.antt and specs/Words.antt.
+mod refused;
+mod words;
+
 ghost use mathlib.Core.Path.{_≡_};
 ghost use mathlib.Core.List.{[], _∷_};
 ghost use Prim.Native.Nat.{_+_, _*_, _≤_, _<_};
 ghost use lib.ListN.{length};
 ghost use Rattle.text.specs.Text.{decimal, spaced, rest, line, row, readNumber};
 ghost use Rattle.text.specs.Inside.{Put, told};
+pub use refused::print_refused;
+pub use refused::unrefused;
+use reply::Refusal;
+pub use words::explain;
 
 // What a word says that should be a number.
 pub enum Number {
     Value(u32),
     Malformed,
+}
+
+// What was printed into lent bytes: the length of the text, and the refusal that it prints, number 0 at place 0, 0
+// where it prints none.
+pub struct Printed {
+    pub length: usize,
+    pub refusal: Refusal,
 }
 
 // Reads a word of decimal digits, at most 4,294,967,295.

@@ -1,7 +1,7 @@
 use mathlib.Core.Path.{refl}
 use denote.Ref.{now}
 use native.Mathlib.Omega.{arith}
-use Rattle.report.proofs.Fitting.{nothing-prints, prints-so}
+use Rattle.text.proofs.Printing.{nothing-prints, prints-so}
 use Rattle.question.specs.Ask.{askText, askRefusal}
 use borrow.Author.Needs.{needs}
 use Rattle.question.proofs.ask.Statement.{statement}

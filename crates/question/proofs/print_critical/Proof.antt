@@ -1,5 +1,5 @@
 use Rattle.text.proofs.Laws.{put-then}
-use Rattle.report.proofs.Fitting.{answer-prints}
+use Rattle.text.proofs.Printing.{answer-prints}
 use Rattle.question.proofs.Asking.{critical-room, critical-filled, critical-refused}
 use denote.Ref.{now}
 use native.Mathlib.Omega.{arith}

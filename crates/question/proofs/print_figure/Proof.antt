@@ -1,4 +1,4 @@
-use Rattle.report.proofs.Fitting.{answer-prints}
+use Rattle.text.proofs.Printing.{answer-prints}
 use Rattle.question.proofs.Asking.{figure-put}
 use borrow.Author.Needs.{needs}
 use Rattle.question.proofs.print_figure.Statement.{statement}

@@ -1,4 +1,4 @@
-use Rattle.report.proofs.Fitting.{answer-prints}
+use Rattle.text.proofs.Printing.{answer-prints}
 use Rattle.question.proofs.Asking.{table-room, table-taken, table-filled, table-refused}
 use denote.Ref.{now}
 use native.Mathlib.Omega.{arith}

@@ -1,13 +1,14 @@
 use mathlib.Core.Path.{refl}
 use Rattle.sheet.specs.Check.{refusalOf}
 use Rattle.sheet.proofs.Answer.{refused-so, accepted-so}
-use Rattle.report.proofs.Fitting.{nothing-prints, answer-prints, prints-so, refused-prints, accepted-prints}
+use Rattle.text.proofs.Printing.{nothing-prints, answer-prints, prints-so}
+use Rattle.report.proofs.Fitting.{refused-prints, accepted-prints}
 use Rattle.report.specs.Fit.{fitText}
 use denote.Ref.{now}
 use native.Mathlib.Omega.{arith}
 use borrow.Author.Needs.{needs}
-use Rattle.report.proofs.fits.fit.Statement.{statement}
-use Rattle.report.proofs.fits.fit.Tie as tie
+use Rattle.report.proofs.fit.Statement.{statement}
+use Rattle.report.proofs.fit.Tie as tie
 
 unrefused-requires : tie.Need-unrefused-requires
 unrefused-requires c κs = search needs

@@ -1,4 +1,5 @@
--- The line of a refusal, from its pieces.
+-- The line of a refusal, from its pieces, and that no second one satisfies the contract.
+-- Assumes nothing.
 use Prim.Native.Nat.{ℕ, _+_, _≤_, _<_}
 use mathlib.Core.Path.{_≡_}
 use mathlib.Core.List.{List, [], _∷_, _++_, append-nil}
@@ -6,10 +7,12 @@ use native.Mathlib.Omega.{arith}
 use borrow.Author.Tests.{ne-eqb, lt-ltb, le-ltb}
 use lib.ListN.{length}
 use Rattle.reply.specs.declared.Refusal.{Refusal}
 use Rattle.text.specs.Text.{ascii, spaced}
+use Rattle.text.specs.Lent.{printedLength, printed}
+use Rattle.text.specs.Words.{sheetReason, questionReason, place, explanation}
 use Rattle.text.specs.Inside.{Put}
 use Rattle.text.proofs.Laws.{put-nothing}
-use Rattle.report.specs.Words.{sheetReason, questionReason, place}
+use Rattle.text.proofs.Printing.{printed-unique}
 
 -- a reason of at most 100 characters, for the number that a `match` has found
 pub reason-put : {before after : List ℕ} {at r n k : ℕ} (reason : ℕ → List ℕ) → n ≡ k → Put before at (reason k) r after
@@ -71,3 +74,11 @@ module _ (r : Refusal) where
   unfolding place
   place-action l h =
       rw (le-ltb (r .number) 5 (omega arith), le-ltb 8 (r .number) h, le-ltb (r .number) 7 l)
+
+-- no second result and no second memory satisfy the contract of `explain`
+pub explain-unique : (program : List ℕ) (x : Refusal) (before : List ℕ) (r q : ℕ) (after other : List ℕ)
+    → r ≡ printedLength (length program + 256) (explanation program x) before
+    → after ≡ printed (length program + 256) (explanation program x) before
+    → q ≡ printedLength (length program + 256) (explanation program x) before
+    → other ≡ printed (length program + 256) (explanation program x) before → (r ≡ q) × (after ≡ other)
+explain-unique program x = printed-unique (length program + 256) (explanation program x)

@@ -2,8 +2,8 @@ use Rattle.report.proofs.Fitting.{whole-value, whole-never}
 use Rattle.sheet.proofs.Answer.{not-refused}
 use native.Mathlib.Omega.{arith}
 use borrow.Author.Needs.{needs}
-use Rattle.report.proofs.fits.whole_request.Statement.{statement}
-use Rattle.report.proofs.fits.whole_request.Tie as tie
+use Rattle.report.proofs.whole_request.Statement.{statement}
+use Rattle.report.proofs.whole_request.Tie as tie
 
 cast-request : tie.Need-cast-request
 cast-request c = omega (arith, c .before .pre .1, not-refused _ (c .before .pre .0 .admitted) .ranged .filled .entered .laid .machines)

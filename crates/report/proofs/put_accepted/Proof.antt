@@ -3,8 +3,8 @@ use Rattle.report.proofs.Fitting.{entered, accepted-put}
 use denote.Ref.{now}
 use native.Mathlib.Omega.{arith}
 use borrow.Author.Needs.{needs}
-use Rattle.report.proofs.fits.put_accepted.Statement.{statement}
-use Rattle.report.proofs.fits.put_accepted.Tie as tie
+use Rattle.report.proofs.put_accepted.Statement.{statement}
+use Rattle.report.proofs.put_accepted.Tie as tie
 
 slice-aggregate-put-line : tie.Need-slice-aggregate-put-line
 slice-aggregate-put-line c = search needs

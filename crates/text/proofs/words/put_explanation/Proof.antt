@@ -1,8 +1,8 @@
 use Rattle.text.proofs.Laws.{put-then}
-use Rattle.report.specs.Words.{explanation}
+use Rattle.text.specs.Words.{explanation}
 use borrow.Author.Needs.{needs}
-use Rattle.report.proofs.words.put_explanation.Statement.{statement}
-use Rattle.report.proofs.words.put_explanation.Tie as tie
+use Rattle.text.proofs.words.put_explanation.Statement.{statement}
+use Rattle.text.proofs.words.put_explanation.Tie as tie
 
 put-bytes-requires : tie.Need-put-bytes-requires
 put-bytes-requires c κs = search needs

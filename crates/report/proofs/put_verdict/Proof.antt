@@ -4,8 +4,8 @@ use Rattle.model.specs.Verdict.{Fits, Late, Open}
 use mathlib.Core.Path.{refl, sym, ap}
 use Rattle.text.specs.Text as Text
 use borrow.Author.Needs.{needs}
-use Rattle.report.proofs.fits.put_verdict.Statement.{statement}
-use Rattle.report.proofs.fits.put_verdict.Tie as tie
+use Rattle.report.proofs.put_verdict.Statement.{statement}
+use Rattle.report.proofs.put_verdict.Tie as tie
 
 judge-requires : tie.Need-judge-requires
 judge-requires c κs = search needs

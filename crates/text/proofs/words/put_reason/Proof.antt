@@ -1,7 +1,7 @@
 use borrow.Author.Tests.{lt-ltb, le-ltb}
 use borrow.Author.Needs.{needs}
-use Rattle.report.proofs.words.put_reason.Statement.{statement}
-use Rattle.report.proofs.words.put_reason.Tie as tie
+use Rattle.text.proofs.words.put_reason.Statement.{statement}
+use Rattle.text.proofs.words.put_reason.Tie as tie
 
 put-sheet-reason-requires : tie.Need-put-sheet-reason-requires
 put-sheet-reason-requires c κs = search needs

@@ -7,8 +7,8 @@ use denote.Ref.{now}
 use Prim.Native.Nat.{_+_, _-_, _*_, _≤_}
 use mathlib.Core.Path.{_≡_, refl}
 use native.Mathlib.Omega.{arith}
-use Rattle.report.proofs.fits.put_machines.Statement.{statement}
-use Rattle.report.proofs.fits.put_machines.Tie as tie
+use Rattle.report.proofs.put_machines.Statement.{statement}
+use Rattle.report.proofs.put_machines.Tie as tie
 
 abbrev Inv-loop : tie.InvT-loop
 Inv-loop out₀ at sheet machines h next₀ k₀ out next k =

@@ -1,10 +1,10 @@
 use denote.Ref.{now}
 use native.Mathlib.Omega.{arith}
 use Rattle.text.proofs.Laws.{put-then, put-nothing}
-use Rattle.report.proofs.Explained.{no-place-below, no-place-above, place-machine, place-action}
+use Rattle.text.proofs.Explained.{no-place-below, no-place-above, place-machine, place-action}
 use borrow.Author.Needs.{needs}
-use Rattle.report.proofs.words.put_place.Statement.{statement}
-use Rattle.report.proofs.words.put_place.Tie as tie
+use Rattle.text.proofs.words.put_place.Statement.{statement}
+use Rattle.text.proofs.words.put_place.Tie as tie
 
 returns : tie.Need-returns
 returns c =

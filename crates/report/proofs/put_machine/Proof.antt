@@ -1,8 +1,8 @@
 use Rattle.report.proofs.Fitting.{entered, machine-put}
 use native.Mathlib.Omega.{arith}
 use borrow.Author.Needs.{needs}
-use Rattle.report.proofs.fits.put_machine.Statement.{statement}
-use Rattle.report.proofs.fits.put_machine.Tie as tie
+use Rattle.report.proofs.put_machine.Statement.{statement}
+use Rattle.report.proofs.put_machine.Tie as tie
 
 states-requires : tie.Need-states-requires
 states-requires c κs = let start = c .before .before in (entered (start .pre .0) (start .pre .1) .laid, start .pre .1)

@@ -2,11 +2,11 @@ use Prim.Native.Nat.{_+_}
 use lib.ListN.{length}
 use denote.Ref.{now}
 use native.Mathlib.Omega.{arith}
-use Rattle.report.specs.Words.{explanation}
-use Rattle.report.proofs.Fitting.{unprinted, printed-so}
+use Rattle.text.specs.Words.{explanation}
+use Rattle.text.proofs.Printing.{unprinted, printed-so}
 use borrow.Author.Needs.{needs}
-use Rattle.report.proofs.words.explain.Statement.{statement}
-use Rattle.report.proofs.words.explain.Tie as tie
+use Rattle.text.proofs.words.explain.Statement.{statement}
+use Rattle.text.proofs.words.explain.Tie as tie
 
 returns : tie.Need-returns
 returns c =

@@ -1,9 +1,9 @@
 use native.Mathlib.Omega.{arith}
-use Rattle.report.specs.Words.{sheetReason}
-use Rattle.report.proofs.Explained.{reason-put, reason-nothing, no-sheet-reason}
+use Rattle.text.specs.Words.{sheetReason}
+use Rattle.text.proofs.Explained.{reason-put, reason-nothing, no-sheet-reason}
 use borrow.Author.Needs.{needs}
-use Rattle.report.proofs.words.put_sheet_reason.Statement.{statement}
-use Rattle.report.proofs.words.put_sheet_reason.Tie as tie
+use Rattle.text.proofs.words.put_sheet_reason.Statement.{statement}
+use Rattle.text.proofs.words.put_sheet_reason.Tie as tie
 
 slice-aggregate-put-bytes : tie.Need-slice-aggregate-put-bytes
 slice-aggregate-put-bytes c = search needs

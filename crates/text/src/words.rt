@@ -2,9 +2,12 @@
 ghost use mathlib.Core.Path.{_≡_};
 ghost use Prim.Native.Nat.{_+_, _≤_};
 ghost use lib.ListN.{length};
 ghost use Rattle.text.specs.Inside.{Put};
-ghost use Rattle.report.specs.Fit.{printedLength, printed};
-ghost use Rattle.report.specs.Words.{sheetReason, questionReason, reason, place, explanation};
+ghost use Rattle.text.specs.Lent.{printedLength, printed};
+ghost use Rattle.text.specs.Words.{sheetReason, questionReason, reason, place, explanation};
+use crate::put_byte;
+use crate::put_bytes;
+use crate::put_spaced;
 use reply::Refusal;
 
 // Why a sheet is refused, by the number.
@@ -13,35 +16,35 @@ fn put_sheet_reason(out: &mut [u8], at: usize, number: u32) -> usize
     ensures { λ r. ⌜ Put (now (out .entry)) at (sheetReason number) r (now (out .exit)) × (r ≤ at + 100) ⌝ }
 {
     match number {
-        1 => text::put_bytes(out, at, b"the length is below 28 or above 2,124"),
-        2 => text::put_bytes(out, at, b"the last four bytes are not SFS1"),
-        3 => text::put_bytes(out, at, b"the machine count is 0 or above 8"),
-        4 => text::put_bytes(
+        1 => put_bytes(out, at, b"the length is below 28 or above 2,124"),
+        2 => put_bytes(out, at, b"the last four bytes are not SFS1"),
+        3 => put_bytes(out, at, b"the machine count is 0 or above 8"),
+        4 => put_bytes(
             out,
             at,
             b"the entries and the trailer exceed the length, or the trailer's offset is wrong",
         ),
-        5 => text::put_bytes(
+        5 => put_bytes(
             out,
             at,
             b"an entry has its states, initial state, actions or zero byte out of range",
         ),
-        6 => text::put_bytes(
+        6 => put_bytes(
             out,
             at,
             b"an entry's offset is wrong or, if there is no such machine, the actions do not end at the entries",
         ),
-        7 => text::put_bytes(
+        7 => put_bytes(
             out,
             at,
             b"an action has a state, period or time out of range, or deadline 0",
         ),
-        8 => text::put_bytes(
+        8 => put_bytes(
             out,
             at,
             b"a deadline is above the divisor of the machine's periods",
         ),
-        9 => text::put_bytes(out, at, b"the hyperperiod H is above 1,024"),
+        9 => put_bytes(out, at, b"the hyperperiod H is above 1,024"),
         _ => at,
     }
 }
@@ -52,14 +55,14 @@ fn put_question_reason(out: &mut [u8], at: usize, number: u32) -> usize
     ensures { λ r. ⌜ Put (now (out .entry)) at (questionReason number) r (now (out .exit)) × (r ≤ at + 100) ⌝ }
 {
     match number {
-        10 => text::put_bytes(out, at, b"the machine asked for is not in the sheet"),
-        11 => text::put_bytes(
+        10 => put_bytes(out, at, b"the machine asked for is not in the sheet"),
+        11 => put_bytes(
             out,
             at,
             b"the window runs backwards, is longer than 2,048 or ends after 1,000,000",
         ),
-        12 => text::put_bytes(out, at, b"the lent output is too short"),
-        14 => text::put_bytes(
+        12 => put_bytes(out, at, b"the lent output is too short"),
+        14 => put_bytes(
             out,
             at,
             b"the window holds more than 6 instants, for the plain reckoner",
@@ -91,14 +94,14 @@ fn put_place(out: &mut [u8], at: usize, refusal: Refusal) -> usize
         return at;
     }
     let machine = [refusal.first];
-    let named = text::put_bytes(out, at, b", at machine");
-    let next = text::put_spaced(out, named, &machine);
+    let named = put_bytes(out, at, b", at machine");
+    let next = put_spaced(out, named, &machine);
     if number < 7 {
         return next;
     }
     let action = [refusal.second];
-    let other = text::put_bytes(out, next, b", action");
-    text::put_spaced(out, other, &action)
+    let other = put_bytes(out, next, b", action");
+    put_spaced(out, other, &action)
 }
 
 fn put_explanation(out: &mut [u8], program: &[u8], refusal: Refusal) -> usize
@@ -106,13 +109,13 @@ fn put_explanation(out: &mut [u8], program: &[u8], refusal: Refusal) -> usize
     ensures { λ r. ⌜ Put (now (out .entry)) 0 (explanation (now (program .entry)) refusal) r (now (out .exit)) ⌝ }
 {
     let number = [refusal.number];
-    let named = text::put_bytes(out, 0, program);
-    let refused = text::put_bytes(out, named, b": refused under");
-    let under = text::put_spaced(out, refused, &number);
-    let colon = text::put_bytes(out, under, b": ");
+    let named = put_bytes(out, 0, program);
+    let refused = put_bytes(out, named, b": refused under");
+    let under = put_spaced(out, refused, &number);
+    let colon = put_bytes(out, under, b": ");
     let reason = put_reason(out, colon, refusal.number);
     let last = put_place(out, reason, refusal);
-    text::put_byte(out, last, 10)
+    put_byte(out, last, 10)
 }
 
 // Makes a line at the start of the lent bytes that says in words why and where the named program was refused, and
