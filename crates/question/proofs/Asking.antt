@@ -65,7 +65,8 @@ module _ (more : List ℕ) (reply : Reply) {before after : List ℕ} {q : Printe
   answered-text e p = rw e p
 
 -- a figure, as the text of its answer
-pub figure-put : {b c : List ℕ} {at r : ℕ} (v : ℕ) → Put b at (row v []) r c → Put b at (replyText (paper (Value v)) []) r c
+pub figure-put : {b c : List ℕ} {at r : ℕ} (v : ℕ) → Put b at (row v []) r c
+    → Put b at (replyText (paper (Value v)) []) r c
 figure-put v p = rw (append-nil (numberLines (v ∷ [])), number-alone v) p
 
 -- the table's text, by the answer

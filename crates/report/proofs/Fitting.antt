@@ -44,14 +44,15 @@ module _ {b : List ℕ} {i h : ℕ} (a : Admitted b h) (known : i < machineCount
 
   in-range : windowInRange 0 h ≡ true
   in-range =
-      let limit = accepted .hyperperiod in
-      rw (le-leb 0 h (omega arith), le-leb h 2048 (omega (arith, a .period, limit)), le-leb h 1000000 (omega (arith, a .period, limit)))
-      refl
+      let few : h ≤ 1024 = omega (arith, a .period, accepted .hyperperiod) in
+      rw (le-leb 0 h (omega arith), le-leb h 2048 (omega arith), le-leb h 1000000 (omega arith)) refl
 
   whole-reply : requestReply b i 0 h ≡ answer 0 (request (machineOf (decode b) i) 0 (hyperperiod (decode b)) ∷ [])
   whole-reply =
-      ap (λ x. x otherwise answer 0 (request (machineOf (decode b) i) 0 (h - 0) ∷ [])) (question-kept b i 0 h (a .admitted) known in-range)
-      ∙ ap (λ n. answer 0 (request (machineOf (decode b) i) 0 n ∷ [])) (let z : h - 0 ≡ hyperperiod (decode b) = omega (arith, a .period) in z)
+      let kept = question-kept b i 0 h (a .admitted) known in-range in
+      let all : h - 0 ≡ hyperperiod (decode b) = omega (arith, a .period) in
+      ap (λ x. x otherwise answer 0 (request (machineOf (decode b) i) 0 (h - 0) ∷ [])) kept
+      ∙ ap (λ n. answer 0 (request (machineOf (decode b) i) 0 n ∷ [])) all
 
   -- the request bound of [0, H) is always answered
   pub whole-value : {r : Answer} {v : ℕ} → paper r ≡ requestReply b i 0 h → r ≡ Value v
@@ -65,15 +66,17 @@ module _ {b : List ℕ} {i h : ℕ} (a : Admitted b h) (known : i < machineCount
   entered = accepted .ranged .filled .entered
 
 -- the line of a machine, from its figures
-pub machine-put : (b : List ℕ) (i : ℕ) {before after : List ℕ} {at r states actions bound : ℕ} → states ≡ machineOf (decode b) i .states
-    → actions ≡ count (machineOf (decode b) i) → bound ≡ request (machineOf (decode b) i) 0 (hyperperiod (decode b))
+pub machine-put : (b : List ℕ) (i : ℕ) {before after : List ℕ} {at r states actions bound : ℕ}
+    → states ≡ machineOf (decode b) i .states → actions ≡ count (machineOf (decode b) i)
+    → bound ≡ request (machineOf (decode b) i) 0 (hyperperiod (decode b))
     → Put before at (line (ascii "M") (i ∷ states ∷ actions ∷ bound ∷ [])) r after
     → Put before at (machineLine (decode b) i) r after
 machine-put b i s a q p = rw (sym s, sym a, sym q) p
 
 -- a loop that has put the lines of the first k machines
 module _ (b : List ℕ) where
-  pub machines-begin : (before : List ℕ) (at : ℕ) → at ≤ length before → Put before at (machineLines (decode b) 0) at before
+  pub machines-begin : (before : List ℕ) (at : ℕ) → at ≤ length before
+      → Put before at (machineLines (decode b) 0) at before
   unfolding machineLines
   machines-begin before at l = put-nothing before at l
 
@@ -117,8 +120,8 @@ pub accepted-put : (b : List ℕ) {b0 b1 b2 b3 : List ℕ} {h n r1 r2 r3 : ℕ} 
     → Put b0 0 (line (ascii "H") (h ∷ [])) r1 b1 → Put b1 r1 (machineLines (decode b) n) r2 b2
     → Put b2 r2 (verdictLine (verdict (decode b))) r3 b3 → Put b0 0 (acceptedText (decode b)) r3 b3
 accepted-put b {b0} {b3 = b3} {h = h} {n = n} {r3 = r3} a known p q s =
-    let all : Put b0 0 (line (ascii "H") (h ∷ []) ++ (machineLines (decode b) n ++ verdictLine (verdict (decode b)))) r3 b3 =
-    put-then p (put-then q s) in
+    let lines = machineLines (decode b) n ++ verdictLine (verdict (decode b)) in
+    let all : Put b0 0 (line (ascii "H") (h ∷ []) ++ lines) r3 b3 = put-then p (put-then q s) in
     rw (a .period, known ∙ sym (decode-count b)) at all
 
 -- the text of `fit`, by what the rules say

@@ -14,7 +14,8 @@ use Rattle.text.specs.Lent.{handed, printedLength, printedRefusal, print
 use Rattle.text.specs.Inside.{Put, Prints}
 
 -- a text that has been put at the start is printed
-module _ {text before after : List ℕ} {r : ℕ} (room : ℕ) (lent : room ≤ length before) (p : Put before 0 text r after) where
+module _ {text before after : List ℕ} {r : ℕ} (room : ℕ) (lent : room ≤ length before)
+    (p : Put before 0 text r after) where
   whole : r ≡ length text
   whole = omega (arith, p .next)
 

@@ -13,7 +13,9 @@ cast-states c =
     omega (arith, c .states .ensures, entered (start .pre .0) (start .pre .1) .states _ (start .pre .1))
 
 action-count-requires : tie.Need-action-count-requires
-action-count-requires c κs = let start = c .before .before .before in (entered (start .pre .0) (start .pre .1) .laid, start .pre .1)
+action-count-requires c κs =
+    let start = c .before .before .before in
+    (entered (start .pre .0) (start .pre .1) .laid, start .pre .1)
 
 cast-actions : tie.Need-cast-actions
 cast-actions c =

@@ -2,10 +2,9 @@ use Rattle.report.proofs.Fitting.{machines-begin, machines-more}
 use Rattle.report.specs.Fit.{machineLines}
 use Rattle.sheet.specs.Format.{decode}
 use Rattle.text.specs.Inside.{Put}
-use lib.ListN.{length}
 use denote.Ref.{now}
 use Prim.Native.Nat.{_+_, _-_, _*_, _≤_}
-use mathlib.Core.Path.{_≡_, refl}
+use mathlib.Core.Path.{_≡_}
 use native.Mathlib.Omega.{arith}
 use Rattle.report.proofs.put_machines.Statement.{statement}
 use Rattle.report.proofs.put_machines.Tie as tie
@@ -20,13 +19,19 @@ abbrev μ-loop : tie.MeasureT-loop
 loop-holds : tie.Need-loop-holds Inv-loop μ-loop
 loop-holds c =
     let start = c .before .before in
-    (omega arith, omega arith, machines-begin (now (start .args .sheet)) (now (start .args .out)) (start .args .at) (omega (arith, start .pre .2)))
+    let args = start .args in
+    let begun = machines-begin (now (args .sheet)) (now (args .out)) (args .at) (omega (arith, start .pre .2)) in
+    (omega arith, omega arith, begun)
 
 put-machine-requires : tie.Need-put-machine-requires Inv-loop μ-loop
 put-machine-requires c κs =
     let loop = c .before .before in
     let start = loop .before .before .before in
-    (start .pre .0, omega (arith, start .pre .1, c .before .loop-test .taken), omega (arith, start .pre .2, loop .loop .inv .1, loop .loop .inv .2 .size, c .before .loop-test .taken))
+    let left = c .before .loop-test .taken in (
+      start .pre .0,
+      omega (arith, start .pre .1, left),
+      omega (arith, start .pre .2, loop .loop .inv .1, loop .loop .inv .2 .size, left),
+    )
 
 add-k : tie.Need-add-k Inv-loop μ-loop
 add-k c = omega arith
@@ -50,8 +55,9 @@ same-length c = c .before .loop .inv .2 .size
 returns : tie.Need-returns Inv-loop μ-loop
 returns c =
     let inv = c .before .loop .inv in
-    let z : c .before .loop .k ≡ c .before .before .before .before .args .machines = omega (arith, inv .0, c .loop-test .left) in
-    (rw z at (inv .2), rw z at (inv .1))
+    let args = c .before .before .before .before .args in
+    let all : c .before .loop .k ≡ args .machines = omega (arith, inv .0, c .loop-test .left) in
+    (rw all at (inv .2), rw all at (inv .1))
 
 pub put-machines-spec : {M : Type 1} → statement M
 put-machines-spec =

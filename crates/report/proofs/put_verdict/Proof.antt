@@ -1,7 +1,7 @@
 use Rattle.reply.specs.Verdict.{paper}
 use Rattle.report.proofs.Fitting.{verdict-put, verdict-never}
 use Rattle.model.specs.Verdict.{Fits, Late, Open}
-use mathlib.Core.Path.{refl, sym, ap}
+use mathlib.Core.Path.{sym, ap}
 use Rattle.text.specs.Text as Text
 use borrow.Author.Needs.{needs}
 use Rattle.report.proofs.put_verdict.Statement.{statement}
@@ -56,7 +56,8 @@ returns c =
     let matched = put .before .before .before .before in
     let judge = matched .before in
     let start = judge .before .before .before in
-    verdict-put _ (start .pre .0) (judge .judge .result) (judge .judge .ensures .0) Fits (ap paper (sym (put .before .before .before .enum-told .given .1))) (put .put-bytes .ensures)
+    let fits = ap paper (sym (put .before .before .before .enum-told .given .1)) in
+    verdict-put _ (start .pre .0) (judge .judge .result) (judge .judge .ensures .0) Fits fits (put .put-bytes .ensures)
 
 same-length-2 : tie.Need-same-length-2
 same-length-2 c = search needs
@@ -67,7 +68,9 @@ returns-2 c =
     let known = put .before .before .before .before .before in
     let judge = known .before .before in
     let start = judge .before .before .before in
-    verdict-put _ (start .pre .0) (judge .judge .result) (judge .judge .ensures .0) (Late _ _ _ _) (ap paper (sym (known .judged .given .1))) (put .put-line .ensures .0)
+    let late = ap paper (sym (known .judged .given .1)) in
+    verdict-put _ (start .pre .0) (judge .judge .result) (judge .judge .ensures .0) (Late _ _ _ _) late
+    (put .put-line .ensures .0)
 
 same-length-3 : tie.Need-same-length-3
 same-length-3 c = search needs
@@ -78,7 +81,9 @@ returns-3 c =
     let known = put .before .before .before .before .before in
     let judge = known .before .before in
     let start = judge .before .before .before in
-    verdict-put _ (start .pre .0) (judge .judge .result) (judge .judge .ensures .0) (Open _ _) (ap paper (sym (known .judged2 .given .1))) (put .put-line2 .ensures .0)
+    let opened = ap paper (sym (known .judged2 .given .1)) in
+    verdict-put _ (start .pre .0) (judge .judge .result) (judge .judge .ensures .0) (Open _ _) opened
+    (put .put-line2 .ensures .0)
 
 returns-4 : tie.Need-returns-4
 returns-4 c =

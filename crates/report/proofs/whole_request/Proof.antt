@@ -6,7 +6,9 @@ use Rattle.report.proofs.whole_request.Statement.{statement}
 use Rattle.report.proofs.whole_request.Tie as tie
 
 cast-request : tie.Need-cast-request
-cast-request c = omega (arith, c .before .pre .1, not-refused _ (c .before .pre .0 .admitted) .ranged .filled .entered .laid .machines)
+cast-request c =
+    let pre = c .before .pre in
+    omega (arith, pre .1, not-refused _ (pre .0 .admitted) .ranged .filled .entered .laid .machines)
 
 request-requires : tie.Need-request-requires
 request-requires c κs = search needs
