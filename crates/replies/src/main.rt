@@ -1,9 +1,9 @@
 // Answers a stream of questions about sheets with what the library's calls give, so that another program can compare
 // every reply and every lent word. Standard input: how many questions, then each question (question.rt). Standard
-// output: for each, the reply (reply.rt), and after a call that is lent words these words and the guards around them
+// output: for each, the reply (replied.rt), and after a call that is lent words these words and the guards around them
 // (words.rt). Numbers are words of 32 bits, little-endian. At a question that is none the program stops.
 mod question;
-mod reply;
+mod replied;
 mod words;
 
 use libc::STDIN_FILENO;

@@ -4,7 +4,7 @@
 ghost use mathlib.Core.Path.{_≡_};
 ghost use Prim.Native.Nat.{_≤_};
 ghost use lib.ListN.{length};
-use crate::reply;
+use crate::replied;
 use crate::words;
 use libc::STDIN_FILENO;
 use number::read_le32;
@@ -64,5 +64,5 @@ fn answer(question: Question, sheet: &[u8], words: &mut [u32], bytes: &mut [u8])
     if call == 4 {
         return words::answer_in_words(question, sheet, words, bytes);
     }
-    words::write_reply(reply::reply(question, sheet))
+    words::write_reply(replied::reply(question, sheet))
 }

@@ -3,8 +3,8 @@ ghost use mathlib.Core.Path.{_≡_};
 ghost use Prim.Native.Nat.{_+_, _*_, _≤_};
 ghost use lib.ListN.{length};
 use crate::question::Question;
-use crate::reply;
-use crate::reply::Reply;
+use crate::replied;
+use crate::replied::Reply;
 use libc::STDOUT_FILENO;
 
 // How many words stand before the lent ones, and how many after them.
@@ -28,7 +28,7 @@ pub(crate) fn answer_in_words(
 {
     mark(words);
     let end = words.len() - GUARDS;
-    let reply = reply::reply_in(question, sheet, &mut words[GUARDS..end]);
+    let reply = replied::reply_in(question, sheet, &mut words[GUARDS..end]);
     let used = 24 + 4 * words.len();
     put_words(&reply, &mut bytes[..24]);
     put_words(words, &mut bytes[24..used]);
