@@ -2,7 +2,7 @@ use Rattle.question.proofs.Lines.{numbers-begin, numbers-more, numbers-
 use Rattle.question.specs.Ask.{numberLines}
 use Rattle.text.specs.Inside.{Put}
 use lib.ListN.{length, take}
-use Prim.Native.Nat.{_+_, _-_, _*_, _≤_}
+use Prim.Native.Nat.{_-_, _*_, _≤_}
 use native.Mathlib.Omega.{arith}
 use borrow.Author.Needs.{needs}
 use Rattle.question.proofs.put_numbers.Statement.{statement}

@@ -1,11 +1,10 @@
 -- Digit by digit: the measure is the number.
 use Rattle.text.proofs.put_byte.Reads as put-byte-reads
 use Rattle.text.proofs.Laws.{decimal-digit, decimal-more, decimal-length, put-then}
-use lib.ListN.{length, length-append}
+use lib.ListN.{length}
 use native.Mathlib.Nat.{div-lt-self}
 use native.Mathlib.Omega.{arith}
-use mathlib.Core.Path.{_≡_, _∙_, ap}
-use Prim.Native.Nat.{_/_}
+use mathlib.Core.Path.{_∙_, ap}
 use Prim.Native.Nat.{ℕ, _<_}
 use borrow.Fn.Kinds.{In}
 use borrow.Fn.PlainCycle.{Measures, is, falls, and}

@@ -1,7 +1,6 @@
 use Rattle.text.proofs.Laws.{put-begin, put-more, put-end}
 use Rattle.text.specs.Inside.{Put}
 use lib.ListN.{length, take}
-use mathlib.Core.Path.{_≡_}
 use native.Mathlib.Omega.{arith}
 use Prim.Native.Nat.{_+_, _-_, _≤_}
 use Rattle.text.proofs.put_bytes.Statement.{statement}
