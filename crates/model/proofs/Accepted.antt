@@ -1,18 +1,19 @@
 -- What the theorems ask of a sheet's machines holds of every sheet that keeps to the sizes.
 -- Assumes nothing.
 use Prim.Native.Nat.{ℕ, _≤_, _<_, _%_}
-use mathlib.Core.Path.{_≡_}
+use mathlib.Core.Path.{_≡_, refl}
 use mathlib.Core.List.{List}
 use native.Mathlib.Omega.{arith}
 use lib.ListN.{length}
-use Rattle.model.specs.Machine.{Machine, machineOf, divisor, hyperperiod}
-use Rattle.model.specs.Sizes.{MachineSizes, Sizes}
-use Rattle.model.specs.Legal.{MayBegin}
-use Rattle.model.specs.Reckon.{request}
+use Rattle.model.specs.Machine.{Machine, count, actionOf, machineOf, divisor, hyperperiod}
+use Rattle.model.specs.Sizes.{Between, MachineSizes, Sizes}
+use Rattle.model.specs.Legal.{MayBegin, cost}
+use Rattle.model.specs.Reckon.{instant?, request}
 use Rattle.model.specs.Verdict.{requests}
-use Rattle.model.specs.Inside.{Repeats, Closed, Separate}
+use Rattle.model.specs.Inside.{Repeats, Closed, Separate, largestCost, may?}
 use Rattle.model.proofs.Sizes.{period-divides-hyperperiod}
-use Rattle.model.proofs.Names.{multiple-repeats, sinks-closed, divisor-divides, divisor-separates, initial-begins}
+use Rattle.model.proofs.Names.{multiple-repeats, sinks-closed, divisor-divides, divisor-separates}
+use Rattle.model.proofs.Names.{begins?-law, state-begins, cost-read}
 use Rattle.model.proofs.Shift.{request-remainder}
 use Rattle.model.proofs.Added.{added-cong}
 
@@ -24,7 +25,15 @@ module _ (m : Machine) (sizes : MachineSizes m) where
   sizes-closed = sinks-closed m (λ k l. sizes .action k l .sink)
 
   pub sizes-begin : MayBegin m (m .initial)
-  sizes-begin = initial-begins m (sizes .initial)
+  sizes-begin = begins?-law m (m .initial) .0 (state-begins m (m .initial) (sizes .initial))
+
+  -- an action may be triggered at each of its instants: its source may begin a sequence
+  pub sizes-may : (k t : ℕ) → k < count m → instant? m k t ≡ may? m t k
+  sizes-may k t l = rw (state-begins m (actionOf m k .source) (sizes .action k l .source)) refl
+
+  -- a cost is at least 1 and at most the largest
+  pub sizes-cost : (k : ℕ) → k < count m → Between 1 largestCost (cost m k)
+  sizes-cost k l = rw (← (cost-read m k refl)) (sizes .action k l .time)
 
 module _ (ms : List Machine) (sizes : Sizes ms) where
   pub sizes-repeat : (i : ℕ) → Repeats (machineOf ms i) (hyperperiod ms)

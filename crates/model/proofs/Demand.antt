@@ -10,10 +10,11 @@ use native.Mathlib.Omega.{arith}
 use native.Mathlib.Nat.{le-antisymm, eq-or-lt-of-le, max-le}
 use lib.Dec.{leb}
 use borrow.Author.Tests.{eq-eqb}
+use Rattle.model.specs.declared.Way.the-variants.{On}
 use Rattle.model.specs.Machine.{Machine, count, actionOf}
-use Rattle.model.specs.Legal.{Instant, Pair, asked, askedBy}
-use Rattle.model.specs.Reckon.{instant?, begins?, most, pair, open?, demand}
-use Rattle.model.specs.Inside.{Closed, Separate, into?, brings, ends, figure, IsRow, LastInstant, dueThen}
+use Rattle.model.specs.Legal.{Pair, asked, askedBy}
+use Rattle.model.specs.Reckon.{instant?, begins?, most, pair, demand}
+use Rattle.model.specs.Inside.{Closed, Separate, may?, into?, brings, ends, figure, IsRow, LastInstant, dueThen}
 use Rattle.model.proofs.Tests.{both-true, cond-cases, cond-cong}
 use Rattle.model.proofs.Most.{most-above, most-below, most-cong, most-max}
 use Rattle.model.proofs.Names.{instant?-law, closed-inside, closed-onward}
@@ -32,16 +33,16 @@ ends-cong m w v s (suc n) h q =
 
 -- what action k brings at t, whatever its sink
 abbrev pushes : Machine → (Pair → ℕ) → ℕ → (ℕ → ℕ) → ℕ → ℕ
-pushes m w t row k = cond (open? m (begins? m) (pair k t)) (row (actionOf m k .source) + w (pair k t)) 0
+pushes m w t row k = cond (may? m t k) (row (actionOf m k .source) + w (pair k t)) 0
 
 pushes-cases : (m : Machine) (w : Pair → ℕ) (t : ℕ) (row : ℕ → ℕ) (k : ℕ)
     → (pushes m w t row k ≡ 0)
     ⊎ ((begins? m (actionOf m k .source) ≡ true)
-    × (instant? m k t ≡ true)
+    × (may? m t k ≡ true)
     × (pushes m w t row k ≡ row (actionOf m k .source) + w (pair k t)))
 pushes-cases m w t row k =
-    ⊎-elim (λ z. inl z) (λ (o, g). let (a, b) = both-true _ _ o in inr (a, b, g))
-    (cond-cases (open? m (begins? m) (pair k t)) (row (actionOf m k .source) + w (pair k t)))
+    ⊎-elim (λ z. inl z) (λ (o, g). inr (both-true _ _ o .0, o, g))
+    (cond-cases (may? m t k) (row (actionOf m k .source) + w (pair k t)))
 
 module _ (m : Machine) (w : Pair → ℕ) (c : Closed m) (s : ℕ) where
   -- the largest figure
@@ -57,11 +58,11 @@ module _ (m : Machine) (w : Pair → ℕ) (c : Closed m) (s : ℕ) where
       omega (
         arith,
         most-above (m .states) (ends m w s n) q l,
-        most-below (count m) (brings m w (s + n) (ends m w s n) q) (most (count m) (pushes m w (s + n) (ends m w s n)))
+        most-below (count m) (brings On m w (s + n) (ends m w s n) q) (most (count m) (pushes m w (s + n) (ends m w s n)))
             (λ k b.
             ⊎-elim (λ z. omega arith)
             (λ (o, j, g). omega (arith, rw o at (most-above (count m) (pushes m w (s + n) (ends m w s n)) k b)))
-            (brings-cases m w (s + n) (ends m w s n) q k)),
+            (brings-cases On m w (s + n) (ends m w s n) q k)),
       )))
       (max-le
       (most-below (m .states) (ends m w s n) _ (λ q l. omega (arith, most-above (m .states) (ends m w s (suc n)) q l)))
@@ -69,17 +70,17 @@ module _ (m : Machine) (w : Pair → ℕ) (c : Closed m) (s : ℕ) where
       ⊎-elim (λ z. omega arith)
       (λ (x, y, g).
       let q = actionOf m k .sink in
-      let v : into? m (s + n) q k ≡ true = rw (x, y, eq-eqb q _ refl) refl in
+      let v : into? On m (s + n) q k ≡ true = rw (y, eq-eqb q _ refl) refl in
       omega (
         arith,
-        rw v at (most-above (count m) (brings m w (s + n) (ends m w s n) q) k l),
+        rw v at (most-above (count m) (brings On m w (s + n) (ends m w s n) q) k l),
         most-above (m .states) (ends m w s (suc n)) q (closed-inside c q (closed-onward c k l x)),
       ))
       (pushes-cases m w (s + n) (ends m w s n) k))))
 
   -- ticks at which nothing that may be triggered weighs anything leave it as it is
   top-idle : (k j n : ℕ) → k + j ≡ n
-      → ((i u : ℕ) → i < count m → k ≤ u → u < n → instant? m i (s + u) ≡ true → w (pair i (s + u)) ≡ 0) → top n ≡ top k
+      → ((i u : ℕ) → i < count m → k ≤ u → u < n → may? m (s + u) i ≡ true → w (pair i (s + u)) ≡ 0) → top n ≡ top k
   top-idle k zero n e h = ap top (omega arith)
   top-idle k (suc j) n e h =
       let u : ℕ = k + j in
@@ -110,7 +111,7 @@ pushes-due : (m : Machine) → Closed m → (t end : ℕ) (row : ℕ → ℕ) (k
     → max (most (m .states) row) (pushes m (askedBy m end) t row k) ≡ max (most (m .states) row) (dueThen m t end row k)
 pushes-due m c t end row k =
     let q = actionOf m k .source in
-    late-idle (open? m (begins? m) (pair k t)) (leb (t + actionOf m k .deadline) end) (row q) (asked m (pair k t)) _
+    late-idle (may? m t k) (leb (t + actionOf m k .deadline) end) (row q) (asked m (pair k t)) _
     (λ o. most-above (m .states) row q (closed-inside c q (both-true (begins? m q) _ o .0)))
 
 module _ (m : Machine) (c : Closed m) (apart : Separate m) where
@@ -122,14 +123,16 @@ module _ (m : Machine) (c : Closed m) (apart : Separate m) where
         askedBy-due m (s + n) (pair i (s + u))
         (⊎-elim (λ z. absurd (omega arith))
         (λ (j, d, z).
-        omega (arith, last .early, apart .gap i j (s + u) (s + k) l d (instant?-law m i (s + u) .0 y) z (omega arith)))
+        let there = instant?-law m j (s + k) .0 (both-true (begins? m (actionOf m j .source)) _ z .1) in
+        let here = instant?-law m i (s + u) .0 y in
+        omega (arith, last .early, apart .gap i j (s + u) (s + k) l d here there (omega arith)))
         (last .some))
 
-    due-after : (i u : ℕ) → i < count m → k < u → u ≤ n → instant? m i (s + u) ≡ true
+    due-after : (i u : ℕ) → i < count m → k < u → u ≤ n → may? m (s + u) i ≡ true
         → askedBy m (s + n) (pair i (s + u)) ≡ 0
     due-after i u l a b y =
         ⊎-elim (λ e. askedBy-late m (s + n) (pair i (s + u)) (omega (arith, apart .positive i l)))
-        (λ d. absurd (last .none i u l a d (instant?-law m i (s + u) .0 y))) (eq-or-lt-of-le b)
+        (λ d. absurd (last .none i u l a d y)) (eq-or-lt-of-le b)
 
   -- the demand bound from the figures at the last instant
   demand-ends : (s n k : ℕ) → LastInstant m s n k → let row = ends m (asked m) s k in
@@ -155,8 +158,8 @@ module _ (m : Machine) (c : Closed m) (apart : Separate m) where
       ∙ sym
       (ap₂ max (most-cong (m .states) _ _ (h .at))
       (most-cong (count m) _ _ (λ i l.
-      cond-cong (open? m (begins? m) (pair i (s + k)) && leb (s + k + actionOf m i .deadline) (s + n)) _ _ (λ e.
-      let (o, d) = both-true (open? m (begins? m) (pair i (s + k))) _ e in
+      cond-cong (may? m (s + k) i && leb (s + k + actionOf m i .deadline) (s + n)) _ _ (λ e.
+      let (o, d) = both-true (may? m (s + k) i) _ e in
       let (b, x) = both-true (begins? m (actionOf m i .source)) _ o in
       ap (λ v. v + asked m (pair i (s + k))) (h .at (actionOf m i .source) (closed-inside c _ b))))))
 
@@ -164,11 +167,11 @@ module _ (m : Machine) (c : Closed m) (apart : Separate m) where
 pub last-start : (m : Machine) (s : ℕ) → LastInstant m s 0 0
 last-start m s = record { early = omega arith; some = inl refl; none = λ j u l a b. absurd (omega arith) }
 
-pub last-here : (m : Machine) (s n j : ℕ) → j < count m → Instant m j (s + n) → LastInstant m s (n + 1) n
+pub last-here : (m : Machine) (s n j : ℕ) → j < count m → may? m (s + n) j ≡ true → LastInstant m s (n + 1) n
 last-here m s n j l i =
     record { early = omega arith; some = inr (j, l, i); none = λ j u l a b. absurd (omega arith) }
 
-pub last-stays : (m : Machine) (s n k : ℕ) → LastInstant m s n k → ((j : ℕ) → j < count m → Instant m j (s + n) → ⊥)
+pub last-stays : (m : Machine) (s n k : ℕ) → LastInstant m s n k → ((j : ℕ) → j < count m → may? m (s + n) j ≡ true → ⊥)
     → LastInstant m s (n + 1) k
 last-stays m s n k h quiet =
     record {

@@ -10,34 +10,36 @@ use native.Mathlib.Decide.{decLe}
 use native.Mathlib.Nat.{le-antisymm, eq-or-lt-of-le, suc-mul, add-zero}
 use lib.Dec.{eqb}
 use borrow.Author.Tests.{eq-eqb, eqb-true}
+use Rattle.model.specs.declared.Way.{Way}
+use Rattle.model.specs.declared.Way.the-variants.{On}
 use Rattle.model.specs.Machine.{Machine, count, actionOf}
 use Rattle.model.specs.Legal.{Pair, total}
 use Rattle.model.specs.Reckon.{instant?, begins?, most, pair, open?, after, best}
-use Rattle.model.specs.Inside.{Closed, into?, brings, moved, ends}
+use Rattle.model.specs.Inside.{Closed, may?, behind, ahead, into?, brings, moved, ends}
 use Rattle.model.proofs.Tests.{true-or-false, both-true, cond-cases, cond-cong}
 use Rattle.model.proofs.Most.{most-above, most-below, most-at, most-cong}
 use Rattle.model.proofs.Names.{closed-inside, closed-onward}
 use Rattle.model.proofs.Onward.{Onward, onward-sooner, onward-wider, onward-source}
 use Rattle.model.proofs.Best.{onward-idle, best-upper, best-lower}
 
-pub brings-cases : (m : Machine) (w : Pair → ℕ) (t : ℕ) (row : ℕ → ℕ) (q k : ℕ)
-    → (brings m w t row q k ≡ 0)
-    ⊎ ((open? m (begins? m) (pair k t) ≡ true)
-    × (actionOf m k .sink ≡ q)
-    × (brings m w t row q k ≡ row (actionOf m k .source) + w (pair k t)))
-brings-cases m w t row q k =
+pub brings-cases : (way : Way) (m : Machine) (w : Pair → ℕ) (t : ℕ) (row : ℕ → ℕ) (q k : ℕ)
+    → (brings way m w t row q k ≡ 0)
+    ⊎ ((may? m t k ≡ true)
+    × (ahead way (actionOf m k) ≡ q)
+    × (brings way m w t row q k ≡ row (behind way (actionOf m k)) + w (pair k t)))
+brings-cases way m w t row q k =
     ⊎-elim (λ z. inl z) (λ (o, g). let (a, b) = both-true _ _ o in inr (a, eqb-true _ _ b, g))
-    (cond-cases (into? m t q k) (row (actionOf m k .source) + w (pair k t)))
+    (cond-cases (into? way m t q k) (row (behind way (actionOf m k)) + w (pair k t)))
 
 -- a step depends only on the figures of states and on the weights at the tick
 pub moved-cong : (m : Machine) (w v : Pair → ℕ) (t : ℕ) (row col : ℕ → ℕ)
     → ((k : ℕ) → k < count m → instant? m k t ≡ true → w (pair k t) ≡ v (pair k t))
     → ((q : ℕ) → begins? m q ≡ true → row q ≡ col q)
-    → (q : ℕ) → row q ≡ col q → moved m w t row q ≡ moved m v t col q
+    → (q : ℕ) → row q ≡ col q → moved On m w t row q ≡ moved On m v t col q
 moved-cong m w v t row col h g q e =
     ap₂ max e
     (most-cong (count m) _ _ (λ k l.
-    cond-cong (into? m t q k) _ _ (λ z.
+    cond-cong (into? On m t q k) _ _ (λ z.
     let (o, x) = both-true (open? m (begins? m) (pair k t)) _ z in
     let (b, i) = both-true (begins? m (actionOf m k .source)) _ o in
     ap₂ _+_ (g (actionOf m k .source) b) (h k l i))))
@@ -64,12 +66,12 @@ module _ (m : Machine) (ok : Pair → Type 0) (w : Pair → ℕ) (s : ℕ) where
       let j′ : q ≡ actionOf m k .source = eqb-true _ _ x in
       let u : begins? m (actionOf m k .source) ≡ true = rw (← j′) h in
       let y′ : instant? m k (s + j) ≡ true = rw z y in
-      let v : into? m (s + j) (actionOf m k .sink) k ≡ true = rw (u, y′, eq-eqb (actionOf m k .sink) _ refl) refl in
+      let v : into? On m (s + j) (actionOf m k .sink) k ≡ true = rw (u, y′, eq-eqb (actionOf m k .sink) _ refl) refl in
       omega (
         arith,
         ap (ends m w s j) j′,
         ap (λ t. w (pair k t)) z,
-        rw v at (most-above (count m) (brings m w (s + j) (ends m w s j) (actionOf m k .sink)) k i),
+        rw v at (most-above (count m) (brings On m w (s + j) (ends m w s j) (actionOf m k .sink)) k i),
         ends-covers c f idle (suc j) n (actionOf m k .sink) σ (omega arith) (closed-onward c k i u)
             (subst (λ (t : ℕ). Onward m ok (after m k) t σ) (omega arith) r),
       ))
@@ -86,7 +88,7 @@ module _ (m : Machine) (ok : Pair → Type 0) (w : Pair → ℕ) (s : ℕ) where
       (τ, onward-wider m ok (begins? m) q s τ h r′, omega arith)
   ends-reached f fits (suc n) q τ l h r =
       let r′ : Onward m ok (eqb q) (suc (s + n)) τ = subst (λ (t : ℕ). Onward m ok (eqb q) t τ) (omega arith) r in
-      elim (decLe (most (count m) (brings m w (s + n) (ends m w s n) q)) (ends m w s n q)) [
+      elim (decLe (most (count m) (brings On m w (s + n) (ends m w s n) q)) (ends m w s n q)) [
         | yes d ↦ (let sooner = onward-sooner m ok (eqb q) (s + n) τ r′ in
             let (σ, x, e) = ends-reached f fits n q τ (omega arith) h sooner in
             (σ, x, omega arith))
@@ -105,8 +107,8 @@ module _ (m : Machine) (ok : Pair → Type 0) (w : Pair → ℕ) (s : ℕ) where
               rw j r′,
             ) in
             (σ, x, omega arith))
-            (brings-cases m w (s + n) (ends m w s n) q k))
-            (most-at (count m) (brings m w (s + n) (ends m w s n) q))
+            (brings-cases On m w (s + n) (ends m w s n) q k))
+            (most-at (count m) (brings On m w (s + n) (ends m w s n) q))
       ]
 
 -- nothing ends in a state in which no sequence may begin
@@ -117,10 +119,10 @@ ends-none m w c s (suc n) q h =
     omega (
       arith,
       ends-none m w c s n q h,
-      most-below (count m) (brings m w (s + n) (ends m w s n) q) 0 (λ k l.
+      most-below (count m) (brings On m w (s + n) (ends m w s n) q) 0 (λ k l.
           ⊎-elim (λ z. omega arith)
           (λ (o, j, g). absurd (false≢true (sym h ∙ ap (begins? m) (sym j) ∙ closed-onward c k l (both-true _ _ o .0))))
-          (brings-cases m w (s + n) (ends m w s n) q k)),
+          (brings-cases On m w (s + n) (ends m w s n) q k)),
     )
 
 -- the front and the back come to the same
@@ -166,8 +168,8 @@ ends-limit m w c h s (suc n) q =
       arith,
       ends-limit m w c h s n q,
       suc-mul n c,
-      most-below (count m) (brings m w (s + n) (ends m w s n) q) (n * c + c) (λ k l.
+      most-below (count m) (brings On m w (s + n) (ends m w s n) q) (n * c + c) (λ k l.
           ⊎-elim (λ z. omega arith)
           (λ (o, j, g). omega (arith, h (pair k (s + n)) l, ends-limit m w c h s n (actionOf m k .source)))
-          (brings-cases m w (s + n) (ends m w s n) q k)),
+          (brings-cases On m w (s + n) (ends m w s n) q k)),
     )

@@ -20,18 +20,15 @@ use Rattle.model.specs.Inside.{Repeats, Closed, Separate}
 use Rattle.model.proofs.Tests.{true-or-false}
 use Rattle.model.proofs.Periods.{periods-each, all-periods-each}
 
--- what the names come to, for the code that reckons with them
-pub instant?-is : (m : Machine) (k t : ℕ) → instant? m k t ≡ eqb (t % actionOf m k .period) 0
-unfolding instant?
-instant?-is m k t = refl
-
-pub begins?-is : (m : Machine) (q : ℕ) → begins? m q ≡ ltb q (m .states)
-unfolding begins?
-begins?-is m q = refl
-
-pub cost-is : (m : Machine) (k : ℕ) → cost m k ≡ actionOf m k .time
+-- what is read of a sheet to tell a cost, and whether there is an instant
+pub cost-read : {time : ℕ} (m : Machine) (k : ℕ) → time ≡ actionOf m k .time → time ≡ cost m k
 unfolding cost
-cost-is m k = refl
+cost-read m k e = e
+
+pub instant-read : {period : ℕ} (m : Machine) (k t : ℕ) → period ≡ actionOf m k .period
+    → eqb (t % period) 0 ≡ instant? m k t
+unfolding instant?
+instant-read m k t e = rw e
 
 -- an instant is a multiple of the period
 pub instant-divides : (m : Machine) (k t : ℕ) → Instant m k t ↔ (actionOf m k .period ∣ t)
@@ -114,7 +111,7 @@ pub closed-onward : {m : Machine} → Closed m → (k : ℕ) → k < count m →
     → begins? m (actionOf m k .sink) ≡ true
 closed-onward {m} c k l e = begins?-law m _ .1 (c .onward k l (begins?-law m _ .0 e))
 
--- a first pair may leave the initial state
-pub initial-begins : (m : Machine) → m .initial < m .states → MayBegin m (m .initial)
-unfolding MayBegin
-initial-begins m l = l
+-- a first pair may leave each state
+pub state-begins : (m : Machine) (q : ℕ) → q < m .states → begins? m q ≡ true
+unfolding begins?
+state-begins m q l = lt-ltb q (m .states) l

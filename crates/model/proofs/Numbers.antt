@@ -11,6 +11,7 @@ use native.Mathlib.Nat.{zero-add, not-suc-le-zero, le-of-suc-le-suc, eq-or-lt-of
 use native.Mathlib.Numerals.{add-one}
 use lib.Dec.{eqb, leb}
 use borrow.Author.Tests.{leb-true, eqb-true}
+use Rattle.model.specs.declared.Way.the-variants.{On}
 use Rattle.model.specs.Machine.{Machine, actionOf}
 use Rattle.model.specs.Legal.{Pair, cost, asked, askedBy, IsRequestBound}
 use Rattle.model.specs.Reckon.{instant?, begins?, most, best, request, demand}
@@ -41,7 +42,7 @@ listed-figure n f j l = listed-at 0 n f j l ∙ ap f (zero-add j)
 -- the row after n ticks, kept as a list so that each figure is computed once
 rowOf : Machine → (Pair → ℕ) → ℕ → ℕ → List ℕ
 rowOf m w s zero = listed 0 (m .states) (λ q. 0)
-rowOf m w s (suc n) = let row = rowOf m w s n in listed 0 (m .states) (moved m w (s + n) (figure row))
+rowOf m w s (suc n) = let row = rowOf m w s n in listed 0 (m .states) (moved On m w (s + n) (figure row))
 
 rowOf-is : (m : Machine) (w : Pair → ℕ) → Closed m → (s n : ℕ) → IsRow m w s n (rowOf m w s n)
 unfolding rowOf
@@ -49,7 +50,7 @@ rowOf-is m w c s zero = row-start m w s _ (listed-figure (m .states) (λ q. 0))
 rowOf-is m w c s (suc n) =
     rw add-one at
     (row-moved m w s c n (rowOf m w s n) (rowOf m w s (suc n)) (rowOf-is m w c s n)
-    (record { at = listed-figure (m .states) (moved m w (s + n) (figure (rowOf m w s n))) }))
+    (record { at = listed-figure (m .states) (moved On m w (s + n) (figure (rowOf m w s n))) }))
 
 top : Machine → (Pair → ℕ) → ℕ → ℕ → ℕ
 top m w s n = let row = rowOf m w s n in most (m .states) (figure row)

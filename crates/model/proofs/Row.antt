@@ -5,6 +5,7 @@ use mathlib.Core.Path.{_≡_, refl, _∙_}
 use mathlib.Core.List.{List}
 use native.Mathlib.Omega.{arith}
 use native.Mathlib.Numerals.{add-one}
+use Rattle.model.specs.declared.Way.the-variants.{On}
 use Rattle.model.specs.Machine.{Machine, count}
 use Rattle.model.specs.Legal.{Pair, cost, asked}
 use Rattle.model.specs.Reckon.{begins?, most, best, request}
@@ -19,7 +20,7 @@ module _ (m : Machine) (w : Pair → ℕ) (s : ℕ) where
   unfolding ends
   row-start row h = record { at = h }
 
-  pub row-moved : Closed m → (n : ℕ) (old new : List ℕ) → IsRow m w s n old → IsMoved m w (s + n) old new
+  pub row-moved : Closed m → (n : ℕ) (old new : List ℕ) → IsRow m w s n old → IsMoved On m w (s + n) old new
       → IsRow m w s (n + 1) new
   unfolding ends
   row-moved c n old new h g =

@@ -10,6 +10,7 @@ use native.Mathlib.Omega.{arith}
 use native.Mathlib.Decide.{decLe}
 use lib.Dec.{leb}
 use borrow.Author.Tests.{le-leb, leb-true}
+use Rattle.model.specs.Limits.{longestWindow}
 use Rattle.model.specs.Machine.{Machine, machineOf}
 use Rattle.model.specs.Reckon.{request, demand}
 use Rattle.model.specs.Search.{smallest}
@@ -47,34 +48,34 @@ module _ (ms : List Machine) (i s : ℕ) where
 
   -- the smallest closing length from n on, and what the lengths from n on give
   closingFrom : ℕ → Option ℕ
-  closingFrom n = smallest n 2048 (closes ms i s)
+  closingFrom n = smallest n longestWindow (closes ms i s)
 
   givenFrom : ℕ → Option Judgement
   givenFrom n = given ms i s (smallest n (lastTested (closingFrom n)) fails) (closingFrom n)
 
   -- a length up to which none closes is tested
-  closing-after : (n : ℕ) → n ≤ 2048 → n ≤ lastTested (closingFrom (suc n))
+  closing-after : (n : ℕ) → n ≤ longestWindow → n ≤ lastTested (closingFrom (suc n))
   unfolding closingFrom
   closing-after n l = elim (none-or-some (closingFrom (suc n))) [
     | inl z ↦ rw z l
     | inr x ↦
-        let h : n ≤ pred (x .0) = omega (arith, smallest-some (suc n) 2048 (closes ms i s) (x .0) (x .1) .least) in
+        let h : n ≤ pred (x .0) = omega (arith, smallest-some (suc n) longestWindow (closes ms i s) (x .0) (x .1) .least) in
         rw (x .1) h
   ]
 
-  scan-given : (n left : ℕ) → 1 ≤ n → n + left ≡ 2049 → scan ms i s n left ≡ givenFrom n
+  scan-given : (n left : ℕ) → 1 ≤ n → n + left ≡ longestWindow + 1 → scan ms i s n left ≡ givenFrom n
   unfolding givenFrom closingFrom fails
   scan-given n zero a e =
-      rw (scan-open n, smallest-past n 2048 (closes ms i s) (omega arith))
-      (rw (smallest-past n 2048 fails (omega arith)))
+      rw (scan-open n, smallest-past n longestWindow (closes ms i s) (omega arith))
+      (rw (smallest-past n longestWindow fails (omega arith)))
   scan-given n (suc left) a e = elim (true-or-false (closes ms i s n)) [
     | inl c ↦
-        rw (scan-closed n left c, smallest-found n 2048 (closes ms i s) (omega arith) c)
+        rw (scan-closed n left c, smallest-found n longestWindow (closes ms i s) (omega arith) c)
         (rw (smallest-past n (pred n) fails (omega arith)))
     | inr c ↦
         let last : ℕ = lastTested (closingFrom (suc n)) in
         let l : n ≤ last = closing-after n (omega arith) in
-        rw (smallest-next n 2048 (closes ms i s) (omega arith) c) (elim (true-or-false (passes ms i s n)) [
+        rw (smallest-next n longestWindow (closes ms i s) (omega arith) c) (elim (true-or-false (passes ms i s n)) [
           | inl p ↦
               rw (scan-next n left c p, smallest-next n last fails l (rw p refl))
               (scan-given (suc n) left (omega arith) (omega arith))
@@ -83,9 +84,9 @@ module _ (ms : List Machine) (i s : ℕ) where
   ]
 
   -- the walk from length 1 over 2,048 lengths, closing tested first, gives what the definition gives
-  pub scan-gives : scan ms i s 1 2048 ≡ gives ms i s
+  pub scan-gives : scan ms i s 1 longestWindow ≡ gives ms i s
   unfolding gives givenFrom closingFrom fails failingLength closingLength
-  scan-gives = scan-given 1 2048 (omega arith) (omega arith)
+  scan-gives = scan-given 1 longestWindow (omega arith) (omega arith)
 
   requests-empty : requests ms i s 0 ≡ 0
   requests-empty =

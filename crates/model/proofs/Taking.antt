@@ -60,7 +60,7 @@ machine-next : (ms : List Machine) (h k : ℕ) → k < length ms
     → fold lcm h (allPeriods (drop k ms)) ≡ fold lcm (fold lcm h (periods (machineOf ms k))) (allPeriods (drop (suc k) ms))
 unfolding allPeriods
 machine-next ms h k l =
-    ap (λ rest. fold lcm h (allPeriods rest)) (drop-cons ms k (record { states = 0; initial = 0; actions = [] }) l)
+    ap (λ rest. fold lcm h (allPeriods rest)) (drop-cons ms k _ l)
     ∙ fold-append lcm h (periods (machineOf ms k)) (allPeriods (drop (suc k) ms))
 
 each-rest : (P : ℕ → Type 0) (k : ℕ) (l : List Machine) → Each P (allPeriods l) → Each P (allPeriods (drop k l))

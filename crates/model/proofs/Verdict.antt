@@ -9,6 +9,7 @@ use mathlib.Core.Logic.{inl, inr, _↔_}
 use native.Mathlib.Omega.{arith}
 use lib.ListN.{length}
 use borrow.Author.Tests.{le-leb, leb-true, not-false}
+use Rattle.model.specs.Limits.{longestWindow}
 use Rattle.model.specs.Machine.{Machine, machineOf, hyperperiod}
 use Rattle.model.specs.Reckon.{demand}
 use Rattle.model.specs.Search.{firstOf, smallest}
@@ -49,7 +50,7 @@ module _ (ms : List Machine) (i s : ℕ) where
   pub record Fitting : Type 0 where
     pub closing : ℕ
     pub positive : 1 ≤ closing
-    pub within : closing ≤ 2048
+    pub within : closing ≤ longestWindow
     pub closed : requests ms (suc i) s closing ≤ closing
     pub passing : (n : ℕ) → 1 ≤ n → n < closing → Passes n
 
@@ -68,7 +69,7 @@ module _ (ms : List Machine) (i s : ℕ) where
   unfolding closingLength failingLength
   gives-fitting e =
       let (c, z, f) = gives-none e in
-      let C = smallest-some 1 2048 (closes ms i s) c z in
+      let C = smallest-some 1 longestWindow (closes ms i s) c z in
       record {
         closing = c;
         positive = C .least;
@@ -82,7 +83,7 @@ module _ (ms : List Machine) (i s : ℕ) where
   unfolding gives closingLength failingLength
   fitting-gives F =
       let closed : closes ms i s (F .closing) ≡ true = closes-at-most (F .closing) .1 (F .closed) in
-      let (c, z, l) = smallest-below 1 2048 (closes ms i s) (F .closing) (F .positive) (F .within) closed in
+      let (c, z, l) = smallest-below 1 longestWindow (closes ms i s) (F .closing) (F .positive) (F .within) closed in
       rw z
       (rw (smallest-absent 1 (pred c) (λ n. not (passes ms i s n)) (λ n a b.
       rw (passes-some n .1 (F .passing n a (omega arith))) refl)))

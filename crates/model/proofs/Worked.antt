@@ -7,7 +7,7 @@ use mathlib.Core.List.{List, [], _∷_, _++_}
 use native.Mathlib.Omega.{arith}
 use lib.ListN.{replicate}
 use Rattle.number.specs.Divide.{euclid, gcd, lcm, fold}
-use Rattle.model.specs.Machine.{Machine, count, actionOf, machineOf, divisor, allPeriods, hyperperiod}
+use Rattle.model.specs.Machine.{Machine, action, machine, count, actionOf, machineOf, divisor, allPeriods, hyperperiod}
 use Rattle.model.specs.Sizes.{ActionSizes, MachineSizes, Sizes}
 use Rattle.model.specs.Legal.{cost}
 use Rattle.model.specs.Reckon.{instant?, begins?, most, best, request, demand}
@@ -23,12 +23,7 @@ use Rattle.model.proofs.Safe.{fits-safe}
 
 -- a machine of one state and one action: its period, execution time and deadline
 abbrev loop : ℕ → ℕ → ℕ → Machine
-loop period time deadline =
-    record {
-      states = 1;
-      initial = 0;
-      actions = record { source = 0; sink = 0; period = period; time = time; deadline = deadline } ∷ [];
-    }
+loop period time deadline = machine 1 0 (action 0 0 period time deadline ∷ [])
 
 -- one action of period, time and deadline 1
 abbrev tight : List Machine

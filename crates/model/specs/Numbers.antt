@@ -1,21 +1,13 @@
 -- Document 01, "Sheet PAIR, and numbers to prove": machine 1 of the sheet PAIR, and P1 to P12 as one table.
 use Prim.Native.Nat.{ℕ}
 use mathlib.Core.List.{List, [], _∷_}
-use Rattle.model.specs.Machine.{Machine}
+use Rattle.model.specs.Machine.{Machine, action, machine}
 use Rattle.model.specs.Legal.{IsRequestBound, IsDemandBound}
 
 abbrev pub machine1 : Machine
 machine1 =
-    record {
-      states = 3;
-      initial = 0;
-      actions =
-          record { source = 0; sink = 1; period = 40; time = 5; deadline = 20 }
-          ∷ record { source = 2; sink = 0; period = 100; time = 6; deadline = 20 }
-          ∷ record { source = 1; sink = 2; period = 40; time = 2; deadline = 20 }
-          ∷ record { source = 1; sink = 2; period = 100; time = 3; deadline = 20 }
-          ∷ [];
-    }
+    machine 3 0
+    (action 0 1 40 5 20 ∷ action 2 0 100 6 20 ∷ action 1 2 40 2 20 ∷ action 1 2 100 3 20 ∷ [])
 
 -- a row of the table: the two ends of a window, and its bound
 pub data Number : Type 0 where

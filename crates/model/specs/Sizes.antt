@@ -3,6 +3,7 @@
 use Prim.Native.Nat.{ℕ, _≤_, _<_}
 use mathlib.Core.List.{List}
 use lib.ListN.{length}
+use Rattle.model.specs.Limits.{longestPeriod, longestTime, longestHyperperiod}
 use Rattle.model.specs.Machine.{Machine, Action, count, actionOf, machineOf, divisor, hyperperiod}
 
 -- a number from low to high
@@ -13,8 +14,8 @@ Between low high n = (low ≤ n) × (n ≤ high)
 pub record ActionSizes (m : Machine) (a : Action) : Type 0 where
   pub source : a .source < m .states
   pub sink : a .sink < m .states
-  pub period : Between 1 1024 (a .period)
-  pub time : Between 1 1024 (a .time)
+  pub period : Between 1 longestPeriod (a .period)
+  pub time : Between 1 longestTime (a .time)
   pub deadline : Between 1 (divisor m) (a .deadline)
 
 pub record MachineSizes (m : Machine) : Type 0 where
@@ -26,4 +27,4 @@ pub record MachineSizes (m : Machine) : Type 0 where
 pub record Sizes (ms : List Machine) : Type 0 where
   pub machines : Between 1 8 (length ms)
   pub machine : (i : ℕ) → i < length ms → MachineSizes (machineOf ms i)
-  pub hyperperiod : hyperperiod ms ≤ 1024
+  pub hyperperiod : hyperperiod ms ≤ longestHyperperiod

@@ -5,6 +5,7 @@ use mathlib.Core.Option.{Option, none, some, Option·getD}
 use mathlib.Core.List.{List}
 use lib.Dec.{leb}
 use lib.ListN.{length}
+use Rattle.model.specs.Limits.{longestWindow}
 use Rattle.model.specs.Machine.{Machine, machineOf, hyperperiod}
 use Rattle.model.specs.Reckon.{request, demand}
 use Rattle.model.specs.Search.{firstOf, smallest, isFound}
@@ -24,11 +25,11 @@ closes ms i s n = leb (requests ms (suc i) s n) n
 
 -- the smallest n from 1 to 2,048 for which they are
 unfoldable pub closingLength : List Machine → ℕ → ℕ → Option ℕ
-closingLength ms i s = smallest 1 2048 (closes ms i s)
+closingLength ms i s = smallest 1 longestWindow (closes ms i s)
 
 -- lengths are tested up to but not including the closing length, or up to and including 2,048 if there is none
 abbrev pub lastTested : Option ℕ → ℕ
-lastTested none = 2048
+lastTested none = longestWindow
 lastTested (some closing) = pred closing
 
 -- m has: the demand bound of machine i over [s, s + n], plus the request bounds over [s, s + m) of machines 0 to i - 1,
