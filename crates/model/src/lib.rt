@@ -3,9 +3,13 @@
 
 // Limits, as in specs/Limits.antt.
 pub const LONGEST_WINDOW: u32 = 2048;
+
 pub const LAST_TICK: u32 = 1000000;
+
 pub const LONGEST_PERIOD: u32 = 1024;
+
 pub const LONGEST_TIME: u32 = 1024;
+
 pub const LONGEST_HYPERPERIOD: u32 = 1024;
 
 // A walk goes on from an action's source to its sink, or back.

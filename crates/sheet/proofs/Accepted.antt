@@ -9,15 +9,16 @@ use native.Mathlib.Omega.{arith}
 use lib.Dec.{leb, ltb}
 use lib.ListN.{length}
 use borrow.Author.Tests.{ltb-true, leb-true, eqb-true}
+use Rattle.model.specs.Limits.{longestPeriod, longestTime, longestHyperperiod}
 use Rattle.model.specs.Machine.{Action, Machine, count, actionOf, machineOf, divisor, hyperperiod}
 use Rattle.model.specs.Sizes.{Between, ActionSizes, MachineSizes, Sizes}
-use Rattle.model.proofs.Names.{divisor-divides}
-use Rattle.model.proofs.Sizes.{hyperperiod-positive, period-divides-hyperperiod}
-use Rattle.sheet.specs.Format.{entry, trailerOffset, machineCount, decode}
+use Rattle.model.proofs.Sizes.{hyperperiod-positive}
+use Rattle.sheet.specs.Format.{actionSize, entrySize, entry, trailerOffset, machineCount, decode}
 use Rattle.reply.specs.Reply.{refusal}
 use Rattle.sheet.specs.Rules.{rule1, rule3, rule4, rule5, rule6, rule7, rule8, rule9}
 use Rattle.sheet.specs.Rules.{actionsBefore, between, trailerInRange, entryInRange, actionInRange, deadlineInRange}
 use Rattle.sheet.specs.Rules.{entryRefusal, offsetRefusal, endRefusal, actionRefusal, machineRefusal}
+use Rattle.sheet.specs.Check.{refusalOf}
 use Rattle.sheet.specs.Inside.{Laid, Entered, Filled, Ranged, Accepted}
 use Rattle.model.specs.Search.{firstOf}
 use Rattle.model.proofs.Search.{first-none}
@@ -32,8 +33,8 @@ module _ (b : List ℕ) where
         long = between-true 28 2124 (length b) (unless-none _ _ one);
         machines = between-true 1 8 (machineCount b) (unless-none _ _ three);
         entries =
-            eqb-true (trailerOffset b + (12 + 8 * machineCount b)) (length b)
-            (both (leb (12 + 8 * machineCount b) (length b)) _ (unless-none (trailerInRange b) _ four) .1);
+            eqb-true (trailerOffset b + (12 + entrySize * machineCount b)) (length b)
+            (both (leb (12 + entrySize * machineCount b) (length b)) _ (unless-none (trailerInRange b) _ four) .1);
       }
 
   entry-kept : rule5 b ≡ none → (k : ℕ) → k < machineCount b → entryInRange (entry b k) ≡ true
@@ -78,14 +79,14 @@ module _ (b : List ℕ) where
             omega (arith, offset k known, decode-actions b k known, before-next k known, ends, h .laid .entries);
       }
     where
-      ends : trailerOffset b ≡ 8 * actionsBefore b (machineCount b)
+      ends : trailerOffset b ≡ actionSize * actionsBefore b (machineCount b)
       ends =
-          eqb-true (trailerOffset b) (8 * actionsBefore b (machineCount b))
+          eqb-true (trailerOffset b) (actionSize * actionsBefore b (machineCount b))
           (unless-none _ (refusal 6 (machineCount b) 0) (orElse-none (firstOf (offsetRefusal b) 0 (machineCount b)) (endRefusal b (machineCount b)) six .1))
 
-      offset : (k : ℕ) → k < machineCount b → entry b k .offset ≡ 8 * actionsBefore b k
+      offset : (k : ℕ) → k < machineCount b → entry b k .offset ≡ actionSize * actionsBefore b k
       offset k known =
-          eqb-true (entry b k .offset) (8 * actionsBefore b k)
+          eqb-true (entry b k .offset) (actionSize * actionsBefore b k)
           (unless-none _ (refusal 6 k 0) (first-none (offsetRefusal b) (machineCount b)
           (orElse-none (firstOf (offsetRefusal b) 0 (machineCount b)) (endRefusal b (machineCount b)) six .0) k known))
 
@@ -101,8 +102,8 @@ module _ (b : List ℕ) where
   record InRange (m : Machine) (a : Action) : Type 0 where
     source : a .source < m .states
     sink : a .sink < m .states
-    period : Between 1 1024 (a .period)
-    time : Between 1 1024 (a .time)
+    period : Between 1 longestPeriod (a .period)
+    time : Between 1 longestTime (a .time)
     deadline : 1 ≤ a .deadline
 
   in-range : (m : Machine) (a : Action) → actionInRange m a ≡ true → InRange m a
@@ -126,14 +127,13 @@ module _ (b : List ℕ) where
         period = λ k j known l. in-range (machineOf (decode b) k) (actionOf (machineOf (decode b) k) j) (all-keep actionInRange 7 seven k j known l) .period;
       }
 
-  pub accepted : Ranged b → rule7 b ≡ none → rule8 b ≡ none → rule9 b ≡ none → Accepted b
-  accepted h seven eight nine =
+  pub accepted : refusalOf b ≡ none → Ranged b → rule7 b ≡ none → rule8 b ≡ none → rule9 b ≡ none → Accepted b
+  accepted e h seven eight nine =
       record {
+        unrefused = e;
         ranged = h;
         machines = decode-count b;
         sizes = sizes;
-        divisor = λ k j known l. divisor-divides (machineOf (decode b) k) j l;
-        common = λ k j known l. period-divides-hyperperiod (decode b) sizes k j l;
         hyperperiod = (hyperperiod-positive (decode b) sizes, sizes .hyperperiod);
       }
     where
@@ -167,7 +167,7 @@ module _ (b : List ℕ) where
           record {
             machines = rw (decode-count b) (h .filled .entered .laid .machines);
             machine = λ k l. machine k (omega (arith, decode-count b));
-            hyperperiod = leb-true (hyperperiod (decode b)) 1024 (unless-none _ (refusal 9 0 0) nine);
+            hyperperiod = leb-true (hyperperiod (decode b)) longestHyperperiod (unless-none _ (refusal 9 0 0) nine);
           }
 
 -- each machine of an accepted sheet keeps to its sizes

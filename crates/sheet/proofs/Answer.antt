@@ -6,6 +6,7 @@ use mathlib.Core.List.{List, [], _∷_}
 use mathlib.Core.Option.{Option, none, some}
 use native.Mathlib.Omega.{arith}
 use borrow.Author.Tests.{le-leb, lt-leb}
+use Rattle.model.specs.Limits.{longestHyperperiod}
 use Rattle.model.specs.Machine.{hyperperiod}
 use Rattle.reply.specs.declared.Checked.{Checked}
 use Rattle.reply.specs.declared.Checked.the-variants.{Accepted, Refused}
@@ -68,15 +69,15 @@ module _ (b : List ℕ) where
   pub check-broken : {r : Refusal} → firstRules b ≡ some r → checkReply b ≡ refused r
   check-broken e = reply-by _ (refusal-last ∙ orElse-found (rule9 b) e)
 
-  pub check-nine : firstRules b ≡ none → 1024 < hyperperiod (decode b) → checkReply b ≡ refused (refusal 9 0 0)
+  pub check-nine : firstRules b ≡ none → longestHyperperiod < hyperperiod (decode b) → checkReply b ≡ refused (refusal 9 0 0)
   check-nine e l =
-      reply-by _ (refusal-last ∙ orElse-clear (rule9 b) e ∙ ap (λ t. unless t (refusal 9 0 0)) (lt-leb (hyperperiod (decode b)) 1024 l))
+      reply-by _ (refusal-last ∙ orElse-clear (rule9 b) e ∙ ap (λ t. unless t (refusal 9 0 0)) (lt-leb (hyperperiod (decode b)) longestHyperperiod l))
 
-  none-refused : firstRules b ≡ none → hyperperiod (decode b) ≤ 1024 → refusalOf b ≡ none
+  none-refused : firstRules b ≡ none → hyperperiod (decode b) ≤ longestHyperperiod → refusalOf b ≡ none
   none-refused e l =
-      refusal-last ∙ orElse-clear (rule9 b) e ∙ ap (λ t. unless t (refusal 9 0 0)) (le-leb (hyperperiod (decode b)) 1024 l)
+      refusal-last ∙ orElse-clear (rule9 b) e ∙ ap (λ t. unless t (refusal 9 0 0)) (le-leb (hyperperiod (decode b)) longestHyperperiod l)
 
-  pub check-accepts : firstRules b ≡ none → hyperperiod (decode b) ≤ 1024
+  pub check-accepts : firstRules b ≡ none → hyperperiod (decode b) ≤ longestHyperperiod
       → checkReply b ≡ answer 0 (machineCount b ∷ hyperperiod (decode b) ∷ [])
   check-accepts e l = reply-by _ (none-refused e l)
 
@@ -85,7 +86,7 @@ module _ (b : List ℕ) where
   not-refused e =
       let (first, nine) = orElse-none (firstRules b) (rule9 b) (sym refusal-last ∙ e) in
       let k = kept first in
-      accepted b (k .ranged-so) (k .seven) (k .eight) nine
+      accepted b e (k .ranged-so) (k .seven) (k .eight) nine
 
 -- what an answer of `check` tells
 module _ (b : List ℕ) where

@@ -7,18 +7,18 @@ use native.Mathlib.Omega.{arith}
 use native.Mathlib.Nat.{not-suc-le-zero, le-of-suc-le-suc}
 use lib.ListN.{length, getD}
 use Rattle.model.specs.Machine.{Action, Machine, count, actionOf, machineOf}
-use Rattle.sheet.specs.Format.{actionAt, actionsAt, Entry, entry, described, machinesFrom, machineCount, decode}
+use Rattle.sheet.specs.Format.{actionSize, actionAt, actionsAt, entry, described, machinesFrom, machineCount, decode}
 
 pub actions-count : (b : List ℕ) (at n : ℕ) → length (actionsAt b at n) ≡ n
 unfolding actionsAt
 actions-count b at zero = refl
-actions-count b at (suc n) = ap suc (actions-count b (at + 8) n)
+actions-count b at (suc n) = ap suc (actions-count b (at + actionSize) n)
 
-action-at : (b : List ℕ) (at n j : ℕ) (d : Action) → j < n → getD (actionsAt b at n) j d ≡ actionAt b (at + 8 * j)
+action-at : (b : List ℕ) (at n j : ℕ) (d : Action) → j < n → getD (actionsAt b at n) j d ≡ actionAt b (at + actionSize * j)
 unfolding actionsAt
 action-at b at zero j d l = absurd (not-suc-le-zero l)
 action-at b at (suc n) zero d l = ap (actionAt b) (omega arith)
-action-at b at (suc n) (suc j) d l = action-at b (at + 8) n j d (le-of-suc-le-suc l) ∙ ap (actionAt b) (omega arith)
+action-at b at (suc n) (suc j) d l = action-at b (at + actionSize) n j d (le-of-suc-le-suc l) ∙ ap (actionAt b) (omega arith)
 
 machines-count : (b : List ℕ) (k n : ℕ) → length (machinesFrom b k n) ≡ n
 unfolding machinesFrom
@@ -45,9 +45,9 @@ module _ (b : List ℕ) (i : ℕ) (known : i < machineCount b) where
   pub decode-actions : count (machineOf (decode b) i) ≡ entry b i .actions
   decode-actions = ap count decode-machine ∙ actions-count b (entry b i .offset) (entry b i .actions)
 
-  -- action j of machine i stands 8 j bytes past the machine's first action
+  -- action j of machine i stands j actions past the machine's first action
   pub decode-action : (j : ℕ) → j < count (machineOf (decode b) i)
-      → actionOf (machineOf (decode b) i) j ≡ actionAt b (entry b i .offset + 8 * j)
+      → actionOf (machineOf (decode b) i) j ≡ actionAt b (entry b i .offset + actionSize * j)
   decode-action j l =
       ap (λ m. actionOf m j) decode-machine
       ∙ action-at b (entry b i .offset) (entry b i .actions) j _ (omega (arith, decode-actions))

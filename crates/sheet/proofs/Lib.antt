@@ -1,6 +1,6 @@
 pub mod Decode
 pub mod Tests
-pub mod Walk
+pub mod Entries
 pub mod Accepted
 pub mod Answer
 pub mod Pair

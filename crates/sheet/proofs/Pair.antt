@@ -3,7 +3,7 @@
 use Prim.Native.Nat.{ℕ}
 use mathlib.Core.Path.{_≡_, refl}
 use mathlib.Core.List.{List, [], _∷_}
-use Rattle.model.specs.Machine.{Machine, machineOf}
+use Rattle.model.specs.Machine.{Machine, action, machine, machineOf}
 use Rattle.model.specs.Numbers.{machine1, numbers, AllRight}
 use Rattle.model.proofs.Numbers.{P1-to-P12}
 use Rattle.sheet.specs.Format.{actionsAt, machinesFrom, decode}
@@ -22,12 +22,7 @@ pair =
     ∷ 0x53 ∷ 0x46 ∷ 0x53 ∷ 0x31 ∷ []
 
 abbrev pub machine0 : Machine
-machine0 =
-    record {
-      states = 1;
-      initial = 0;
-      actions = record { source = 0; sink = 0; period = 40; time = 14; deadline = 40 } ∷ [];
-    }
+machine0 = machine 1 0 (action 0 0 40 14 40 ∷ [])
 
 pub pair-means : decode pair ≡ machine0 ∷ machine1 ∷ []
 unfolding decode machinesFrom actionsAt

@@ -2,7 +2,7 @@
 -- Assumes nothing.
 use Prim.Native.Nat.{ℕ, zero, suc, _+_, _-_, _*_, _≤_, _<_}
 use mathlib.Core.Path.{_≡_, refl, sym, _∙_, ap, ap₂, subst}
-use mathlib.Core.Bool.{Bool, true, false, cond, _&&_, false≢true}
+use mathlib.Core.Bool.{Bool, true, false, _&&_, false≢true}
 use mathlib.Core.List.{List, [], _∷_}
 use mathlib.Core.Option.{none, some}
 use native.Mathlib.Omega.{arith}
@@ -11,12 +11,13 @@ use lib.Dec.{leb, ltb, eqb}
 use lib.ListN.{length, take, drop, length-drop}
 use lib.Seq.{take-all}
 use borrow.Author.Tests.{leb-true, eqb-true, eq-eqb, ne-eqb}
-use Rattle.model.specs.Machine.{Action, Machine, count, actionOf, machineOf, divisor}
+use Rattle.model.specs.Limits.{longestPeriod, longestTime}
+use Rattle.model.specs.Machine.{Action, Machine, count, machineOf, divisor}
 use Rattle.model.specs.Sizes.{Between}
-use Rattle.sheet.specs.Format.{Entry, entry, trailerOffset, machineCount, lastFour, mark, decode}
+use Rattle.sheet.specs.Format.{actionSize, entry, trailerOffset, machineCount, lastFour, mark, decode}
 use Rattle.sheet.specs.Rules.{between, same, entryInRange, actionsBefore, endRefusal}
 use Rattle.reply.specs.Reply.{refusal}
-use Rattle.sheet.specs.Inside.{keeps, keepsIn}
+use Rattle.sheet.specs.Inside.{keeps}
 use Rattle.reply.proofs.Refusals.{equal-broken, equal-kept}
 use Rattle.sheet.proofs.Decode.{decode-machine, decode-actions}
 
@@ -75,15 +76,15 @@ module _ (b : List ℕ) (k : ℕ) (known : k < machineCount b) where
       ap₂ _&&_ (ap₂ _&&_ (ap₂ _&&_ (ep ∙ ap (between 1 16) fs) (ap₂ ltb fi fs)) (eq ∙ ap (between 1 32) fa)) (ap (λ (x : ℕ). eqb x 0) ez)
 
   -- where the actions of the next machine begin
-  pub begin-next : (begin a : ℕ) → begin ≡ 8 * actionsBefore b k → a ≡ count (machineOf (decode b) k) → begin + 8 * a ≡ 8 * actionsBefore b (k + 1)
+  pub begin-next : (begin a : ℕ) → begin ≡ actionSize * actionsBefore b k → a ≡ count (machineOf (decode b) k) → begin + actionSize * a ≡ actionSize * actionsBefore b (k + 1)
   unfolding actionsBefore
   begin-next begin a e f = rw add-one (omega (arith, decode-actions b k known))
 
 -- after the last machine the actions end, at t or not
 module _ (b : List ℕ) {machines k begin t : ℕ} (counted : machines ≡ machineCount b) (last : k ≡ machines)
-    (ends : begin ≡ 8 * actionsBefore b k) (trailer : t ≡ trailerOffset b) where
-  at-end : begin ≡ 8 * actionsBefore b (machineCount b)
-  at-end = ends ∙ ap (λ i. 8 * actionsBefore b i) (last ∙ counted)
+    (ends : begin ≡ actionSize * actionsBefore b k) (trailer : t ≡ trailerOffset b) where
+  at-end : begin ≡ actionSize * actionsBefore b (machineCount b)
+  at-end = ends ∙ ap (λ i. actionSize * actionsBefore b i) (last ∙ counted)
 
   pub end-broken : (begin ≡ t → ⊥) → endRefusal b (machineCount b) ≡ some (refusal 6 machines 0)
   end-broken n =
@@ -93,21 +94,17 @@ module _ (b : List ℕ) {machines k begin t : ℕ} (counted : machines ≡ machi
   end-kept e = equal-kept _ _ _ (sym trailer ∙ sym e ∙ at-end)
 
 -- an action's tests, by the fields that are read of it
-pub seven-test : (rule s d : ℕ) (a : Action) (x y p t e : ℕ) (in-p in-t : Bool) → rule ≡ 7 → x ≡ a .source → y ≡ a .sink
-    → p ≡ a .period → in-p ≡ between 1 1024 p → t ≡ a .time → in-t ≡ between 1 1024 t → e ≡ a .deadline
-    → ltb x s && ltb y s && in-p && in-t && leb 1 e ≡ keeps rule s d a
-seven-test rule s d a x y p t e in-p in-t seven hx hy hp kp ht kt he =
-    ap₂ _&&_
-    (ap₂ _&&_
-    (ap₂ _&&_ (ap₂ _&&_ (ap (λ n. ltb n s) hx) (ap (λ n. ltb n s) hy)) (kp ∙ ap (between 1 1024) hp))
-    (kt ∙ ap (between 1 1024) ht))
-    (ap (leb 1) he)
-    ∙ sym (ap (λ x. cond x (keeps 7 s d a) (leb (a .deadline) d)) (eq-eqb rule 7 seven))
+module _ (m : Machine) (a : Action) {rule : ℕ} where
+  pub seven-test : {s x y p t e : ℕ} {in-p in-t : Bool} → rule ≡ 7 → s ≡ m .states → x ≡ a .source → y ≡ a .sink
+      → p ≡ a .period → in-p ≡ between 1 longestPeriod p → t ≡ a .time → in-t ≡ between 1 longestTime t
+      → e ≡ a .deadline → ltb x s && ltb y s && in-p && in-t && leb 1 e ≡ keeps rule m a
+  seven-test seven hs hx hy hp kp ht kt he =
+      ap₂ _&&_
+      (ap₂ _&&_
+      (ap₂ _&&_ (ap₂ _&&_ (ap₂ ltb hx hs) (ap₂ ltb hy hs)) (kp ∙ ap (between 1 longestPeriod) hp))
+      (kt ∙ ap (between 1 longestTime) ht))
+      (ap (leb 1) he)
+      ∙ sym (rw (eq-eqb rule 7 seven) refl)
 
-pub eight-test : (rule s d : ℕ) (a : Action) (e : ℕ) → (rule ≡ 7 → ⊥) → e ≡ a .deadline → leb e d ≡ keeps rule s d a
-eight-test rule s d a e other he =
-    ap (λ n. leb n d) he ∙ sym (ap (λ x. cond x (keeps 7 s d a) (leb (a .deadline) d)) (ne-eqb rule 7 other))
-
-pub keeps-read : (rule : ℕ) {s d : ℕ} {a : Action} (m : Machine) (j : ℕ) → s ≡ m .states → d ≡ divisor m → a ≡ actionOf m j
-    → keeps rule s d a ≡ keepsIn rule m (actionOf m j)
-keeps-read rule m j es ed ea = rw (es, ed, ea)
+  pub eight-test : {d e : ℕ} → (rule ≡ 7 → ⊥) → d ≡ divisor m → e ≡ a .deadline → leb e d ≡ keeps rule m a
+  eight-test other hd he = ap₂ leb he hd ∙ sym (rw (ne-eqb rule 7 other) refl)

@@ -3,28 +3,27 @@ use Prim.Native.Nat.{ℕ, zero, suc, _+_, _-_, _*_}
 use mathlib.Core.List.{List, [], _∷_}
 use lib.ListN.{length, getD, drop}
 use Rattle.number.specs.Little.{le16, le32}
-use Rattle.model.specs.Machine.{Action, Machine}
+use Rattle.model.specs.Machine.{Action, Machine, action, machine}
 
 -- an action, 8 bytes: source state (1), sink state (1), period (2), execution time (2), relative deadline (2)
+abbrev pub actionSize : ℕ
+actionSize = 8
+
 abbrev pub actionAt : List ℕ → ℕ → Action
-actionAt b at =
-    record {
-      source = getD b at 0;
-      sink = getD b (at + 1) 0;
-      period = le16 b (at + 2);
-      time = le16 b (at + 4);
-      deadline = le16 b (at + 6);
-    }
+actionAt b at = action (getD b at 0) (getD b (at + 1) 0) (le16 b (at + 2)) (le16 b (at + 4)) (le16 b (at + 6))
 
 -- a machine entry, 8 bytes: states (1), initial state (1), actions (1), a zero byte (1), offset of its first action (4)
-pub record Entry : Type 0 where
+abbrev pub entrySize : ℕ
+entrySize = 8
+
+pub record EntryBytes : Type 0 where
   pub states : ℕ
   pub initial : ℕ
   pub actions : ℕ
   pub zeroByte : ℕ
   pub offset : ℕ
 
-abbrev pub entryAt : List ℕ → ℕ → Entry
+abbrev pub entryAt : List ℕ → ℕ → EntryBytes
 entryAt b at =
     record {
       states = getD b at 0;
@@ -48,17 +47,17 @@ abbrev pub mark : List ℕ
 mark = 0x53 ∷ 0x46 ∷ 0x53 ∷ 0x31 ∷ []
 
 -- the entry of machine k
-abbrev pub entry : List ℕ → ℕ → Entry
-entry b k = entryAt b (trailerOffset b + 8 * k)
+abbrev pub entry : List ℕ → ℕ → EntryBytes
+entry b k = entryAt b (trailerOffset b + entrySize * k)
 
 -- the n actions that stand one after another from `at` on
 unfoldable pub actionsAt : List ℕ → ℕ → ℕ → List Action
 actionsAt b at zero = []
-actionsAt b at (suc n) = actionAt b at ∷ actionsAt b (at + 8) n
+actionsAt b at (suc n) = actionAt b at ∷ actionsAt b (at + actionSize) n
 
 -- the machine that an entry describes
-abbrev pub described : List ℕ → Entry → Machine
-described b e = record { states = e .states; initial = e .initial; actions = actionsAt b (e .offset) (e .actions) }
+abbrev pub described : List ℕ → EntryBytes → Machine
+described b e = machine (e .states) (e .initial) (actionsAt b (e .offset) (e .actions))
 
 -- the n machines from machine k on
 unfoldable pub machinesFrom : List ℕ → ℕ → ℕ → List Machine

@@ -5,8 +5,9 @@ use mathlib.Core.List.{List, [], _∷_}
 use mathlib.Core.Option.{Option, none, some}
 use lib.Dec.{leb, ltb, eqb}
 use lib.ListN.{length}
+use Rattle.model.specs.Limits.{longestPeriod, longestTime, longestHyperperiod}
 use Rattle.model.specs.Machine.{Action, Machine, count, actionOf, machineOf, divisor, hyperperiod}
-use Rattle.sheet.specs.Format.{Entry, entry, trailerOffset, machineCount, lastFour, mark, decode}
+use Rattle.sheet.specs.Format.{actionSize, entrySize, EntryBytes, entry, trailerOffset, machineCount, lastFour, mark, decode}
 use Rattle.model.specs.Search.{firstOf}
 use Rattle.reply.specs.declared.Refusal.{Refusal}
 use Rattle.reply.specs.Reply.{refusal, unless, _orElse_}
@@ -36,14 +37,14 @@ rule3 b = unless (between 1 8 (machineCount b)) (refusal 3 0 0)
 -- 4: 12 + 8M exceeds the length, or the trailer's offset is wrong
 abbrev pub trailerInRange : List ℕ → Bool
 trailerInRange b =
-    let tail = 12 + 8 * machineCount b in
+    let tail = 12 + entrySize * machineCount b in
     leb tail (length b) && eqb (trailerOffset b + tail) (length b)
 
 abbrev pub rule4 : List ℕ → Option Refusal
 rule4 b = unless (trailerInRange b) (refusal 4 0 0)
 
 -- 5: an entry has states, initial state, actions or zero byte out of range
-abbrev pub entryInRange : Entry → Bool
+abbrev pub entryInRange : EntryBytes → Bool
 entryInRange e =
     between 1 16 (e .states) && ltb (e .initial) (e .states) && between 1 32 (e .actions) && eqb (e .zeroByte) 0
 
@@ -60,10 +61,10 @@ actionsBefore b (suc k) = actionsBefore b k + entry b k .actions
 
 -- 6: an entry's offset is wrong, or actions do not end at the entries
 abbrev pub offsetRefusal : List ℕ → ℕ → Option Refusal
-offsetRefusal b k = unless (eqb (entry b k .offset) (8 * actionsBefore b k)) (refusal 6 k 0)
+offsetRefusal b k = unless (eqb (entry b k .offset) (actionSize * actionsBefore b k)) (refusal 6 k 0)
 
 abbrev pub endRefusal : List ℕ → ℕ → Option Refusal
-endRefusal b k = unless (eqb (trailerOffset b) (8 * actionsBefore b k)) (refusal 6 k 0)
+endRefusal b k = unless (eqb (trailerOffset b) (actionSize * actionsBefore b k)) (refusal 6 k 0)
 
 abbrev pub rule6 : List ℕ → Option Refusal
 rule6 b = firstOf (offsetRefusal b) 0 (machineCount b) orElse endRefusal b (machineCount b)
@@ -73,8 +74,8 @@ abbrev pub actionInRange : Machine → Action → Bool
 actionInRange m a =
     ltb (a .source) (m .states)
     && ltb (a .sink) (m .states)
-    && between 1 1024 (a .period)
-    && between 1 1024 (a .time)
+    && between 1 longestPeriod (a .period)
+    && between 1 longestTime (a .time)
     && leb 1 (a .deadline)
 
 -- the first refusal under number n at an action that fails a test: of machine k, and of all machines in order
@@ -101,4 +102,4 @@ rule8 b = actionsRefusal deadlineInRange 8 b
 
 -- 9: H above 1,024
 abbrev pub rule9 : List ℕ → Option Refusal
-rule9 b = unless (leb (hyperperiod (decode b)) 1024) (refusal 9 0 0)
+rule9 b = unless (leb (hyperperiod (decode b)) longestHyperperiod) (refusal 9 0 0)

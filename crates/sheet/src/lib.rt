@@ -1,16 +1,31 @@
 // The sheet: what its bytes mean, and the check that accepts it or refuses it with a number and a
 // place. Definitions: specs/Format.antt, Rules.antt, Check.antt and Reply.antt, in document 01's order.
+mod meaning;
 pub mod read;
 mod rules;
 
 ghost use mathlib.Core.Path.{_≡_};
+ghost use Prim.Native.Nat.{_<_};
+ghost use Rattle.sheet.specs.Format.{machineCount};
 ghost use Rattle.reply.specs.Checked.{paper};
 ghost use Rattle.sheet.specs.Check.{checkReply};
-ghost use Rattle.sheet.specs.Inside.{firstRules};
+ghost use Rattle.sheet.specs.Inside.{firstRules, Accepted, IsEntry};
 ghost use Rattle.reply.specs.Inside.{found};
+pub use meaning::cost;
+pub use meaning::divisor;
+pub use meaning::has_instant;
+use model::LONGEST_HYPERPERIOD;
 use reply::Checked;
 use reply::Rule;
-pub use rules::divisor_of;
+
+// A machine's entry, as its actions are read by it: the machine's number, its states and actions, and where its first
+// action stands.
+pub struct Entry {
+    pub machine: usize,
+    pub states: usize,
+    pub actions: usize,
+    pub first: usize,
+}
 
 // Checks a sheet: accepted, with its number of machines and its hyperperiod, or refused under the
 // first of rules 1 to 9 that it breaks, with the first place at which it breaks it.
@@ -22,7 +37,7 @@ pub fn check(sheet: &[u8]) -> Checked
         return Checked::Refused(refusal);
     }
     let hyperperiod = rules::hyperperiod_of(sheet);
-    if 1024 < hyperperiod {
+    if LONGEST_HYPERPERIOD < hyperperiod {
         return Checked::Refused(reply::placeless(9));
     }
     Checked::Accepted {
@@ -52,4 +67,12 @@ fn first_rules(sheet: &[u8]) -> Rule
         return actions;
     }
     rules::action_rule(sheet, 8)
+}
+
+// Reads the entry of a machine of an accepted sheet.
+pub fn entry_of(sheet: &[u8], machine: usize) -> Entry
+    requires { ⌜ Accepted (now sheet) × (machine < machineCount (now sheet)) ⌝ }
+    ensures { λ r. ⌜ (r .machine ≡ machine) × IsEntry (now (sheet .entry)) r ⌝ }
+{
+    read::entry(sheet, machine)
 }

@@ -1,10 +1,18 @@
-// Fields of a sheet, read where they stand. `machine` is a machine's number, `at` the offset of an action.
+// Fields of a sheet, read where they stand: of the trailer, of the entry of machine `machine`, and of a machine's
+// action j. No other code knows where an action stands.
 ghost use mathlib.Core.Path.{_≡_};
 ghost use Prim.Native.Nat.{_+_, _*_, _^_, _≤_, _<_};
 ghost use lib.ListN.{length, getD};
-ghost use Rattle.model.specs.Machine.{count, machineOf};
-ghost use Rattle.sheet.specs.Format.{actionAt, entry, trailerOffset, machineCount, decode};
-ghost use Rattle.sheet.specs.Inside.{Laid};
+ghost use Rattle.model.specs.Machine.{count, actionOf, machineOf};
+ghost use Rattle.sheet.specs.Format.{entrySize, trailerOffset, machineCount, decode};
+ghost use Rattle.sheet.specs.Format.{entry as Format·entry};
+ghost use Rattle.sheet.specs.Inside.{Laid, Filled, machineAt, Read, HasAction, StandsAt};
+use crate::Entry;
+
+// How many bytes an action has, and a machine's entry.
+pub(crate) const ACTION_SIZE: usize = 8;
+
+pub(crate) const ENTRY_SIZE: usize = 8;
 
 // The number of machines.
 pub fn machine_count(sheet: &[u8]) -> usize
@@ -25,15 +33,16 @@ pub fn trailer_offset(sheet: &[u8]) -> usize
 // Where a machine's entry stands.
 fn entry_at(sheet: &[u8], machine: usize) -> usize
     requires { ⌜ Laid (now sheet) × (machine < machineCount (now sheet)) ⌝ }
-    ensures { λ r. ⌜ (r ≡ trailerOffset (now (sheet .entry)) + 8 * machine) × (r + 8 ≤ length (now (sheet .entry))) ⌝ }
+    ensures { λ r. ⌜ (r ≡ trailerOffset (now (sheet .entry)) + entrySize * machine)
+        × (r + entrySize ≤ length (now (sheet .entry))) ⌝ }
 {
-    trailer_offset(sheet) + 8 * machine
+    trailer_offset(sheet) + ENTRY_SIZE * machine
 }
 
 // A byte of a machine's entry.
 fn entry_byte(sheet: &[u8], machine: usize, i: usize) -> usize
-    requires { ⌜ Laid (now sheet) × (machine < machineCount (now sheet)) × (i < 8) ⌝ }
-    ensures { λ r. ⌜ r ≡ getD (now (sheet .entry)) (trailerOffset (now (sheet .entry)) + 8 * machine + i) 0 ⌝ }
+    requires { ⌜ Laid (now sheet) × (machine < machineCount (now sheet)) × (i < entrySize) ⌝ }
+    ensures { λ r. ⌜ r ≡ getD (now (sheet .entry)) (trailerOffset (now (sheet .entry)) + entrySize * machine + i) 0 ⌝ }
 {
     number::read_byte(sheet, entry_at(sheet, machine) + i)
 }
@@ -65,7 +74,7 @@ pub fn action_count(sheet: &[u8], machine: usize) -> usize
 // The fourth byte of a machine's entry.
 pub(crate) fn zero_byte(sheet: &[u8], machine: usize) -> usize
     requires { ⌜ Laid (now sheet) × (machine < machineCount (now sheet)) ⌝ }
-    ensures { λ r. ⌜ r ≡ entry (now (sheet .entry)) machine .zeroByte ⌝ }
+    ensures { λ r. ⌜ r ≡ Format·entry (now (sheet .entry)) machine .zeroByte ⌝ }
 {
     entry_byte(sheet, machine, 3)
 }
@@ -73,47 +82,68 @@ pub(crate) fn zero_byte(sheet: &[u8], machine: usize) -> usize
 // The offset of a machine's first action.
 pub fn first_action(sheet: &[u8], machine: usize) -> usize
     requires { ⌜ Laid (now sheet) × (machine < machineCount (now sheet)) ⌝ }
-    ensures { λ r. ⌜ r ≡ entry (now (sheet .entry)) machine .offset ⌝ }
+    ensures { λ r. ⌜ r ≡ Format·entry (now (sheet .entry)) machine .offset ⌝ }
 {
     number::read_le32(sheet, entry_at(sheet, machine) + 4) as usize
 }
 
-// An action's source state.
-pub fn source(sheet: &[u8], at: usize) -> usize
-    requires { ⌜ at + 8 ≤ length (now sheet) ⌝ }
-    ensures { λ r. ⌜ r ≡ actionAt (now (sheet .entry)) at .source ⌝ }
+// A machine's entry, by which its actions are read.
+pub(crate) fn entry(sheet: &[u8], machine: usize) -> Entry
+    requires { ⌜ Filled (now sheet) × (machine < machineCount (now sheet)) ⌝ }
+    ensures { λ r. ⌜ (r .machine ≡ machine) × Read (now (sheet .entry)) r ⌝ }
 {
-    number::read_byte(sheet, at)
+    Entry {
+        machine,
+        states: states(sheet, machine),
+        actions: action_count(sheet, machine),
+        first: first_action(sheet, machine),
+    }
 }
 
-// An action's sink state.
-pub fn sink(sheet: &[u8], at: usize) -> usize
-    requires { ⌜ at + 8 ≤ length (now sheet) ⌝ }
-    ensures { λ r. ⌜ r ≡ actionAt (now (sheet .entry)) at .sink ⌝ }
+// Where action j of a machine stands.
+fn action_at(sheet: &[u8], entry: Entry, j: usize) -> usize
+    requires { ⌜ HasAction (now sheet) entry j ⌝ }
+    ensures { λ r. ⌜ StandsAt (now (sheet .entry)) entry j r ⌝ }
 {
-    number::read_byte(sheet, at + 1)
+    entry.first + ACTION_SIZE * j
 }
 
-// An action's period.
-pub fn period(sheet: &[u8], at: usize) -> u32
-    requires { ⌜ at + 8 ≤ length (now sheet) ⌝ }
-    ensures { λ r. ⌜ r ≡ actionAt (now (sheet .entry)) at .period ⌝ }
+// The source state of action j.
+pub fn source(sheet: &[u8], entry: Entry, j: usize) -> usize
+    requires { ⌜ HasAction (now sheet) entry j ⌝ }
+    ensures { λ r. ⌜ r ≡ actionOf (machineAt (now (sheet .entry)) entry) j .source ⌝ }
 {
-    number::read_le16(sheet, at + 2)
+    number::read_byte(sheet, action_at(sheet, entry, j))
 }
 
-// An action's execution time.
-pub fn time(sheet: &[u8], at: usize) -> u32
-    requires { ⌜ at + 8 ≤ length (now sheet) ⌝ }
-    ensures { λ r. ⌜ r ≡ actionAt (now (sheet .entry)) at .time ⌝ }
+// Its sink state.
+pub fn sink(sheet: &[u8], entry: Entry, j: usize) -> usize
+    requires { ⌜ HasAction (now sheet) entry j ⌝ }
+    ensures { λ r. ⌜ r ≡ actionOf (machineAt (now (sheet .entry)) entry) j .sink ⌝ }
 {
-    number::read_le16(sheet, at + 4)
+    number::read_byte(sheet, action_at(sheet, entry, j) + 1)
 }
 
-// An action's relative deadline.
-pub fn deadline(sheet: &[u8], at: usize) -> u32
-    requires { ⌜ at + 8 ≤ length (now sheet) ⌝ }
-    ensures { λ r. ⌜ r ≡ actionAt (now (sheet .entry)) at .deadline ⌝ }
+// Its period.
+pub(crate) fn period(sheet: &[u8], entry: Entry, j: usize) -> u32
+    requires { ⌜ HasAction (now sheet) entry j ⌝ }
+    ensures { λ r. ⌜ r ≡ actionOf (machineAt (now (sheet .entry)) entry) j .period ⌝ }
 {
-    number::read_le16(sheet, at + 6)
+    number::read_le16(sheet, action_at(sheet, entry, j) + 2)
+}
+
+// Its execution time.
+pub(crate) fn time(sheet: &[u8], entry: Entry, j: usize) -> u32
+    requires { ⌜ HasAction (now sheet) entry j ⌝ }
+    ensures { λ r. ⌜ r ≡ actionOf (machineAt (now (sheet .entry)) entry) j .time ⌝ }
+{
+    number::read_le16(sheet, action_at(sheet, entry, j) + 4)
+}
+
+// Its relative deadline.
+pub fn deadline(sheet: &[u8], entry: Entry, j: usize) -> u32
+    requires { ⌜ HasAction (now sheet) entry j ⌝ }
+    ensures { λ r. ⌜ r ≡ actionOf (machineAt (now (sheet .entry)) entry) j .deadline ⌝ }
+{
+    number::read_le16(sheet, action_at(sheet, entry, j) + 6)
 }

@@ -5,15 +5,22 @@ ghost use mathlib.Core.Option.{some};
 ghost use Prim.Native.Nat.{_+_, _≤_, _<_};
 ghost use lib.ListN.{length};
 ghost use Rattle.number.specs.Divide.{fold, lcm};
-ghost use Rattle.model.specs.Machine.{machineOf, periods, divisor, hyperperiod};
+ghost use Rattle.model.specs.Limits.{longestHyperperiod};
+ghost use Rattle.model.specs.Machine.{actionOf, machineOf, periods, hyperperiod, divisor as Machine·divisor};
 ghost use Rattle.model.specs.Sizes.{Between};
-ghost use Rattle.sheet.specs.Format.{actionAt, entry, machineCount, lastFour, mark, decode};
+ghost use Rattle.sheet.specs.Format.{entry, machineCount, lastFour, mark, decode};
 ghost use Rattle.reply.specs.Reply.{refusal};
 ghost use Rattle.sheet.specs.Rules.{same, trailerInRange, entryInRange, machineRefusal, actionsRefusal};
 ghost use Rattle.sheet.specs.Rules.{rule5, rule6, between as Rules·between};
-ghost use Rattle.sheet.specs.Inside.{trailerRules, Laid, Entered, Filled, Ranged, keeps, keepsIn, Limited};
+ghost use Rattle.sheet.specs.Inside.{trailerRules, Laid, Entered, Filled, Ranged, Limited, keeps};
+ghost use Rattle.sheet.specs.Inside.{machineAt, HasAction};
 ghost use Rattle.reply.specs.Inside.{found};
+use crate::Entry;
+use crate::meaning;
 use crate::read;
+use model::LONGEST_HYPERPERIOD;
+use model::LONGEST_PERIOD;
+use model::LONGEST_TIME;
 use reply::Refusal;
 use reply::Rule;
 
@@ -50,7 +57,7 @@ fn trailer_in_range(sheet: &[u8]) -> bool
     requires { ⌜ 12 ≤ length (now sheet) ⌝ }
     ensures { λ r. ⌜ r ≡ trailerInRange (now (sheet .entry)) ⌝ }
 {
-    let tail = 12 + 8 * read::machine_count(sheet);
+    let tail = 12 + read::ENTRY_SIZE * read::machine_count(sheet);
     (tail <= sheet.len()) & (read::trailer_offset(sheet) + tail == sheet.len())
 }
 
@@ -113,7 +120,7 @@ pub(crate) fn offset_rule(sheet: &[u8]) -> Rule
         if read::first_action(sheet, k) != begin {
             return broken(6, k, 0);
         }
-        begin += 8 * read::action_count(sheet, k);
+        begin += read::ACTION_SIZE * read::action_count(sheet, k);
         k += 1;
     }
     if begin != read::trailer_offset(sheet) {
@@ -122,50 +129,40 @@ pub(crate) fn offset_rule(sheet: &[u8]) -> Rule
     Rule::Kept
 }
 
-// Whether the action at `at` keeps rule 7, or else rule 8, in a machine of so many states and this divisor.
-fn action_keeps(sheet: &[u8], rule: u32, states: usize, divisor: u32, at: usize) -> bool
-    requires { ⌜ at + 8 ≤ length (now sheet) ⌝ }
-    ensures { λ r. ⌜ r ≡ keeps rule states divisor (actionAt (now (sheet .entry)) at) ⌝ }
+// Whether action j of a machine keeps rule 7, or else rule 8.
+fn action_keeps(sheet: &[u8], rule: u32, entry: Entry, divisor: u32, j: usize) -> bool
+    requires { ⌜ HasAction (now sheet) entry j × (divisor ≡ Machine·divisor (machineAt (now sheet) entry)) ⌝ }
+    ensures { λ r. ⌜ r ≡ keeps rule (machineAt (now (sheet .entry)) entry)
+        (actionOf (machineAt (now (sheet .entry)) entry) j) ⌝ }
 {
     if rule == 7 {
-        return (read::source(sheet, at) < states)
-            & (read::sink(sheet, at) < states)
-            & between(1, 1024, read::period(sheet, at) as usize)
-            & between(1, 1024, read::time(sheet, at) as usize)
-            & (1 <= read::deadline(sheet, at));
+        return (read::source(sheet, entry, j) < entry.states)
+            & (read::sink(sheet, entry, j) < entry.states)
+            & between(
+                1,
+                LONGEST_PERIOD as usize,
+                read::period(sheet, entry, j) as usize,
+            )
+            & between(
+                1,
+                LONGEST_TIME as usize,
+                read::time(sheet, entry, j) as usize,
+            )
+            & (1 <= read::deadline(sheet, entry, j));
     }
-    read::deadline(sheet, at) <= divisor
-}
-
-// The greatest common divisor of a machine's periods.
-pub fn divisor_of(sheet: &[u8], machine: usize) -> u32
-    requires { ⌜ Filled (now sheet) × (machine < machineCount (now sheet)) ⌝ }
-    ensures { λ r. ⌜ r ≡ divisor (machineOf (decode (now (sheet .entry))) machine) ⌝ }
-{
-    let actions = read::action_count(sheet, machine);
-    let first = read::first_action(sheet, machine);
-    let mut divisor = 0;
-    let mut j = 0;
-    while j < actions {
-        let next = number::gcd_of(divisor, read::period(sheet, first + 8 * j));
-        divisor = next;
-        j += 1;
-    }
-    divisor
+    read::deadline(sheet, entry, j) <= divisor
 }
 
 // Rule 7 or 8 at the actions of one machine.
 fn machine_rule(sheet: &[u8], rule: u32, machine: usize) -> Rule
     requires { ⌜ Filled (now sheet) × (machine < machineCount (now sheet)) ⌝ }
-    ensures { λ r. ⌜ found r ≡ machineRefusal (keepsIn rule) rule (now (sheet .entry)) machine ⌝ }
+    ensures { λ r. ⌜ found r ≡ machineRefusal (keeps rule) rule (now (sheet .entry)) machine ⌝ }
 {
-    let states = read::states(sheet, machine);
-    let actions = read::action_count(sheet, machine);
-    let first = read::first_action(sheet, machine);
-    let divisor = divisor_of(sheet, machine);
+    let entry = read::entry(sheet, machine);
+    let divisor = meaning::divisor(sheet, entry);
     let mut j = 0;
-    while j < actions {
-        if !action_keeps(sheet, rule, states, divisor, first + 8 * j) {
+    while j < entry.actions {
+        if !action_keeps(sheet, rule, entry, divisor, j) {
             return broken(rule, machine, j);
         }
         j += 1;
@@ -176,7 +173,7 @@ fn machine_rule(sheet: &[u8], rule: u32, machine: usize) -> Rule
 // Rule 7 or 8: the actions of all machines.
 pub(crate) fn action_rule(sheet: &[u8], rule: u32) -> Rule
     requires { ⌜ Filled (now sheet) ⌝ }
-    ensures { λ r. ⌜ found r ≡ actionsRefusal (keepsIn rule) rule (now (sheet .entry)) ⌝ }
+    ensures { λ r. ⌜ found r ≡ actionsRefusal (keeps rule) rule (now (sheet .entry)) ⌝ }
 {
     let machines = read::machine_count(sheet);
     let mut k = 0;
@@ -190,18 +187,17 @@ pub(crate) fn action_rule(sheet: &[u8], rule: u32) -> Rule
     Rule::Kept
 }
 
-// The least common multiple of h and a machine's periods, or some number above 1,024 if it is above.
+// The least common multiple of h and a machine's periods, or some number above the longest hyperperiod if it is above.
 fn multiple_of(sheet: &[u8], machine: usize, h: u32) -> u32
-    requires { ⌜ Ranged (now sheet) × (machine < machineCount (now sheet)) × Between 1 1024 h ⌝ }
+    requires { ⌜ Ranged (now sheet) × (machine < machineCount (now sheet)) × Between 1 longestHyperperiod h ⌝ }
     ensures { λ r. ⌜ Limited (fold lcm h (periods (machineOf (decode (now (sheet .entry))) machine))) r ⌝ }
 {
-    let actions = read::action_count(sheet, machine);
-    let first = read::first_action(sheet, machine);
+    let entry = read::entry(sheet, machine);
     let mut multiple = h;
     let mut j = 0;
-    while j < actions {
-        let next = number::lcm_of(multiple, read::period(sheet, first + 8 * j));
-        if 1024 < next {
+    while j < entry.actions {
+        let next = number::lcm_of(multiple, read::period(sheet, entry, j));
+        if LONGEST_HYPERPERIOD < next {
             return next;
         }
         multiple = next;
@@ -210,7 +206,7 @@ fn multiple_of(sheet: &[u8], machine: usize, h: u32) -> u32
     multiple
 }
 
-// H, or some number above 1,024 if H is above: a least common multiple never falls.
+// H, or some number above the longest if H is above: a least common multiple never falls.
 pub(crate) fn hyperperiod_of(sheet: &[u8]) -> u32
     requires { ⌜ Ranged (now sheet) ⌝ }
     ensures { λ r. ⌜ Limited (hyperperiod (decode (now (sheet .entry)))) r ⌝ }
@@ -220,7 +216,7 @@ pub(crate) fn hyperperiod_of(sheet: &[u8]) -> u32
     let mut k = 0;
     while k < machines {
         let next = multiple_of(sheet, k, h);
-        if 1024 < next {
+        if LONGEST_HYPERPERIOD < next {
             return next;
         }
         h = next;

@@ -1,5 +1,5 @@
 use Rattle.model.proofs.Search.{Clear, clear-begin, clear-found, clear-more, clear-end}
-use Rattle.sheet.specs.Inside.{keepsIn}
+use Rattle.sheet.specs.Inside.{keeps}
 use Rattle.reply.specs.Inside.{found}
 use Rattle.sheet.specs.Rules.{machineRefusal}
 use borrow.Author.Needs.{needs}
@@ -10,7 +10,7 @@ use Rattle.sheet.proofs.rules.action_rule.Statement.{statement}
 use Rattle.sheet.proofs.rules.action_rule.Tie as tie
 
 abbrev Inv-loop : tie.InvT-loop
-Inv-loop sheet rule machines k₀ k = (k ≤ machines) × Clear (machineRefusal (keepsIn rule) rule sheet) k
+Inv-loop sheet rule machines k₀ k = (k ≤ machines) × Clear (machineRefusal (keeps rule) rule sheet) k
 
 abbrev μ-loop : tie.MeasureT-loop
 μ-loop sheet rule machines k₀ k = machines - k

@@ -1,7 +1,8 @@
-use Rattle.sheet.proofs.Walk.{machine-positive, all-positive}
+use Rattle.sheet.proofs.Entries.{machine-positive, all-positive}
 use Rattle.sheet.proofs.Decode.{decode-count}
 use Rattle.sheet.specs.Format.{machineCount, decode}
 use Rattle.model.proofs.Taking.{Gathering, gathering-begin, gathering-more, gathering-end, gathering-rises}
+use Rattle.model.specs.Limits.{longestHyperperiod}
 use Rattle.model.specs.Sizes.{Between}
 use Rattle.model.specs.Machine.{machineOf, periods, hyperperiod}
 use Rattle.number.proofs.Divide.{lcms-positive}
@@ -14,7 +15,7 @@ use Rattle.sheet.proofs.rules.hyperperiod_of.Statement.{statement}
 use Rattle.sheet.proofs.rules.hyperperiod_of.Tie as tie
 
 abbrev Inv-loop : tie.InvT-loop
-Inv-loop sheet machines h₀ k₀ h k = (k ≤ machines) × Between 1 1024 h × Gathering (decode sheet) h k (hyperperiod (decode sheet))
+Inv-loop sheet machines h₀ k₀ h k = (k ≤ machines) × Between 1 longestHyperperiod h × Gathering (decode sheet) h k (hyperperiod (decode sheet))
 
 abbrev μ-loop : tie.MeasureT-loop
 μ-loop sheet machines h₀ k₀ h k = machines - k

@@ -1,105 +1,94 @@
-use Rattle.sheet.proofs.Walk.{action-inside, action-read}
-use Rattle.sheet.proofs.Tests.{keeps-read}
+use Prim.Native.Nat.{ℕ, _≤_, _-_}
+use mathlib.Core.Path.{_≡_, refl, sym, _∙_}
+use native.Mathlib.Omega.{arith}
+use Rattle.model.specs.Machine.{count}
+use Rattle.model.specs.Search.{firstOf}
 use Rattle.model.proofs.Search.{Clear, clear-begin, clear-found, clear-more, clear-end}
 use Rattle.reply.proofs.Refusals.{broken-here, kept-here}
-use Rattle.sheet.specs.Inside.{keepsIn}
-use Rattle.sheet.specs.Rules.{actionRefusal}
-use Rattle.sheet.specs.Format.{decode}
-use Rattle.model.specs.Machine.{machineOf, actionOf}
-use lib.ListN.{length}
-use native.Mathlib.Omega.{arith}
-use mathlib.Core.Path.{_≡_, sym, _∙_}
-use Prim.Native.Nat.{_+_, _*_, _≤_, _-_}
+use Rattle.sheet.specs.Rules.{actionRefusal, machineRefusal}
+use Rattle.sheet.specs.Inside.{machineAt, HasAction, keeps}
 use Rattle.sheet.proofs.rules.machine_rule.Statement.{statement}
 use Rattle.sheet.proofs.rules.machine_rule.Tie as tie
 
 abbrev Inv-loop : tie.InvT-loop
-Inv-loop sheet rule machine states actions first divisor j₀ j = (j ≤ actions) × Clear (actionRefusal (keepsIn rule) rule (machineOf (decode sheet) machine) machine) j
+Inv-loop sheet rule machine entry divisor j₀ j =
+    (j ≤ entry .actions) × Clear (actionRefusal (keeps rule) rule (machineAt sheet entry) machine) j
 
 abbrev μ-loop : tie.MeasureT-loop
-μ-loop sheet rule machine states actions first divisor j₀ j = actions - j
+μ-loop sheet rule machine entry divisor j₀ j = entry .actions - j
 
--- the action that a turn tests stands inside the sheet
-inside : (c : tie.In-loop Inv-loop μ-loop)
-    → c .before .before .before .first-action .result + 8 * c .before .loop .j + 8
-    ≤ length (c .before .before .before .before .before .before .before .args .sheet .now)
-inside c =
-    let read = c .before .before .before in
-    let start = read .before .before .before .before in
-    action-inside (start .pre .0) (start .pre .1) (read .before .action-count .ensures) (read .first-action .ensures) (c .loop-test .taken)
+abbrev start-of : tie.Then1 Inv-loop μ-loop → tie.Start Inv-loop μ-loop
+start-of c = c .before .before .before .before .before .before
 
--- the code's test is the rule's
-tested : (c : tie.After-action-keeps Inv-loop μ-loop)
-    → let start = c .before .before .before .before .before .before .before .before in
-    let m = machineOf (decode (start .args .sheet .now)) (start .args .machine) in
-    c .action-keeps .result ≡ keepsIn (start .args .rule) m (actionOf m (c .before .before .loop .j))
-tested c =
-    let read = c .before .before .before .before in
-    let start = read .before .before .before .before in
-    c .action-keeps .ensures
-    ∙ keeps-read (start .args .rule) _ _ (read .before .before .states .ensures) (c .before .before .before .divisor-of .ensures)
-    (action-read (start .pre .0) (start .pre .1) (read .before .action-count .ensures) (read .first-action .ensures) (c .before .loop-test .taken))
+-- the action of a turn is one of the machine's
+has : (c : tie.Then1 Inv-loop μ-loop)
+    → HasAction (start-of c .args .sheet .now) (c .before .before .before .before .entry .result)
+    (c .before .before .loop .j)
+has c =
+    let read = c .before .before .before .before .entry .ensures .1 in
+    record { read = read; below = omega (arith, read .actions, c .if1 .taken) }
 
 -- machines and actions are few
-few : (c : tie.In-loop Inv-loop μ-loop) → (c .before .before .before .before .before .before .before .args .machine ≤ 32) × (c .before .loop .j ≤ 32)
+few : (c : tie.Then1 Inv-loop μ-loop) → (start-of c .args .machine ≤ 32) × (c .before .before .loop .j ≤ 32)
 few c =
-    let read = c .before .before .before in
-    let start = read .before .before .before .before in
-    let entered = start .pre .0 .entered in (
-      omega (arith, start .pre .1, entered .laid .machines .1),
-      omega (arith, read .before .action-count .ensures, entered .actions (start .args .machine) (start .pre .1) .1),
-    )
+    let (filled, known) = start-of c .pre in
+    let (same, read) = c .before .before .before .before .entry .ensures in
+    let few = filled .entered .actions _ known .1 in
+    let counted = rw same at (read .actions) in
+    (omega (arith, known, filled .entered .laid .machines .1), omega (arith, c .if1 .taken))
 
-states-requires : tie.Need-states-requires Inv-loop μ-loop
-states-requires c κs = (c .before .pre .0 .entered .laid, c .before .pre .1)
+entry-requires : tie.Need-entry-requires Inv-loop μ-loop
+entry-requires c κs = c .before .pre
 
-action-count-requires : tie.Need-action-count-requires Inv-loop μ-loop
-action-count-requires c κs = (c .before .before .pre .0 .entered .laid, c .before .before .pre .1)
-
-first-action-requires : tie.Need-first-action-requires Inv-loop μ-loop
-first-action-requires c κs = (c .before .before .before .pre .0 .entered .laid, c .before .before .before .pre .1)
-
-divisor-of-requires : tie.Need-divisor-of-requires Inv-loop μ-loop
-divisor-of-requires c κs = c .before .before .before .before .pre
+divisor-requires : tie.Need-divisor-requires Inv-loop μ-loop
+divisor-requires c κs = c .entry .ensures .1
 
 loop-holds : tie.Need-loop-holds Inv-loop μ-loop
 loop-holds c = (omega arith, clear-begin)
 
-mul-action-keeps : tie.Need-mul-action-keeps Inv-loop μ-loop
-mul-action-keeps c = omega (arith, inside c)
-
-add-action-keeps : tie.Need-add-action-keeps Inv-loop μ-loop
-add-action-keeps c = omega (arith, inside c)
-
 action-keeps-requires : tie.Need-action-keeps-requires Inv-loop μ-loop
-action-keeps-requires c κs = inside c
+action-keeps-requires c κs = (has c, c .before .before .before .divisor .ensures)
 
 broken-requires : tie.Need-broken-requires Inv-loop μ-loop
 broken-requires c κs = few (c .before .before)
 
+-- the machine by its number is the entry's
+by-number : (c : tie.After-entry Inv-loop μ-loop) {n : ℕ}
+    → let start = c .before .before .args in
+    n ≡ count (machineAt (start .sheet .now) (c .entry .result))
+    → firstOf (actionRefusal (keeps (start .rule)) (start .rule) (machineAt (start .sheet .now) (c .entry .result))
+    (start .machine)) 0 n
+    ≡ machineRefusal (keeps (start .rule)) (start .rule) (start .sheet .now) (start .machine)
+by-number c e = rw (e, c .entry .ensures .0) refl
+
 returns : tie.Need-returns Inv-loop μ-loop
 returns c =
-    let turn = c .before .before .before in
+    let tested = c .before .before in
+    let turn = tested .before in
     c .broken .ensures
-    ∙ sym (clear-found _ (turn .before .loop .inv .1) (omega (arith, turn .before .before .before .before .action-count .ensures))
-    (broken-here _ _ (tested (c .before .before)) (c .before .if1 .taken)))
+    ∙ sym (clear-found _ (turn .before .before .loop .inv .1) (has turn .below)
+    (broken-here _ _ (tested .action-keeps .ensures) (c .before .if2 .taken)))
+    ∙ by-number (turn .before .before .before .before) refl
 
 add-j : tie.Need-add-j Inv-loop μ-loop
-add-j c = omega arith
+add-j c = omega (arith, few (c .before .before))
 
 loop-less : tie.Need-loop-less Inv-loop μ-loop
-loop-less c = omega arith
+loop-less c = omega (arith, c .before .before .if1 .taken)
 
 loop-again : tie.Need-loop-again Inv-loop μ-loop
 loop-again c = (
-  omega arith,
-  clear-more (c .before .before .before .loop .inv .1) (kept-here _ _ (tested (c .before)) (c .if1 .left)),
+  omega (arith, c .before .before .if1 .taken),
+  clear-more (c .before .before .before .before .loop .inv .1)
+      (kept-here _ _ (c .before .action-keeps .ensures) (c .if2 .left)),
 )
 
 returns-2 : tie.Need-returns-2 Inv-loop μ-loop
 returns-2 c =
-    let counted = c .before .before .before .before .action-count .ensures in
-    sym (clear-end _ (c .before .loop .inv .1) (omega (arith, counted)))
+    let read = c .before .before .before .before in
+    let (same, entry) = read .entry .ensures in
+    sym (clear-end _ (c .before .before .loop .inv .1) (omega (arith, entry .actions, c .if1 .left)))
+    ∙ by-number read refl
 
 pub machine-rule-spec : {M : Type 1} → statement M
 machine-rule-spec =
@@ -107,13 +96,9 @@ machine-rule-spec =
     (tie.spec
     Inv-loop
     μ-loop
-    states-requires
-    action-count-requires
-    first-action-requires
-    divisor-of-requires
+    entry-requires
+    divisor-requires
     loop-holds
-    mul-action-keeps
-    add-action-keeps
     action-keeps-requires
     broken-requires
     returns

@@ -3,7 +3,7 @@ use Rattle.model.proofs.Search.{Clear, clear-begin, clear-found, clear-more, cl
 use Rattle.reply.proofs.Refusals.{equal-broken, equal-kept, orElse-found, orElse-clear}
 use Rattle.sheet.specs.Rules.{actionsBefore, offsetRefusal}
 use Rattle.model.specs.Search.{firstOf}
-use Rattle.sheet.specs.Format.{machineCount}
+use Rattle.sheet.specs.Format.{actionSize, machineCount}
 use mathlib.Core.Option.{none}
 use native.Mathlib.Omega.{arith}
 use mathlib.Core.Path.{_≡_, refl, sym, _∙_, ap}
@@ -12,7 +12,7 @@ use Rattle.sheet.proofs.rules.offset_rule.Statement.{statement}
 use Rattle.sheet.proofs.rules.offset_rule.Tie as tie
 
 abbrev Inv-loop : tie.InvT-loop
-Inv-loop sheet machines begin₀ k₀ begin k = (k ≤ machines) × (begin ≤ 256 * k) × (begin ≡ 8 * actionsBefore sheet k) × Clear (offsetRefusal sheet) k
+Inv-loop sheet machines begin₀ k₀ begin k = (k ≤ machines) × (begin ≤ 256 * k) × (begin ≡ actionSize * actionsBefore sheet k) × Clear (offsetRefusal sheet) k
 
 abbrev μ-loop : tie.MeasureT-loop
 μ-loop sheet machines begin₀ k₀ begin k = machines - k
