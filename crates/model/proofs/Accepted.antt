@@ -21,6 +21,12 @@ module _ (m : Machine) (sizes : MachineSizes m) where
   pub sizes-separate : Separate m
   sizes-separate = divisor-separates m (divisor m) (divisor-divides m) (λ k l. sizes .action k l .deadline)
 
+  -- a deadline is at least 1 and at most the divisor
+  pub sizes-divisor : 0 < divisor m
+  sizes-divisor =
+      let first = sizes .action 0 (omega (arith, sizes .actions .0)) .deadline in
+      omega (arith, first .0, first .1)
+
   pub sizes-closed : Closed m
   sizes-closed = sinks-closed m (λ k l. sizes .action k l .sink)
 

@@ -5,13 +5,14 @@ use mathlib.Core.Path.{_≡_, sym, _∙_, ap}
 use mathlib.Core.List.{List}
 use native.Mathlib.Omega.{arith}
 use lib.ListN.{replicate, getD-replicate}
-use Rattle.model.specs.Machine.{Machine, count}
-use Rattle.model.specs.Legal.{cost, asked}
+use Rattle.model.specs.declared.Way.the-variants.{On}
+use Rattle.model.specs.Limits.{lastTick}
+use Rattle.model.specs.Machine.{Machine}
+use Rattle.model.specs.Legal.{asked}
 use Rattle.model.specs.Sizes.{MachineSizes}
 use Rattle.model.specs.Reckon.{most, request, demand}
-use Rattle.model.specs.Inside.{figure, IsRow}
-use Rattle.model.proofs.Names.{cost-is}
-use Rattle.model.proofs.Accepted.{sizes-closed, sizes-separate}
+use Rattle.model.specs.Inside.{largestCost, figure, IsRow}
+use Rattle.model.proofs.Accepted.{sizes-cost, sizes-closed, sizes-separate}
 use Rattle.model.proofs.Row.{row-start, row-moved, row-request, row-limit}
 use Rattle.model.proofs.Demand.{demand-front, last-start, last-here, last-stays}
 use Rattle.walk.specs.Inside.{Marks, Ready, Ticked, Last, DueWithin}
@@ -25,18 +26,15 @@ row-zeros {m} sizes s =
 
 module _ {m : Machine} (sizes : MachineSizes m) {s n : ℕ} {row : List ℕ} (h : IsRow m (asked m) s n row) where
   -- a row is ready for a tick
-  pub row-ready : n ≤ 1000000 → {t mask : ℕ} → Marks m t mask → Ready m mask row
+  pub row-ready : n ≤ lastTick → {t mask : ℕ} → Marks m t mask → Ready m mask row
   row-ready l {t} g =
       record {
         tick = t;
         marks = g;
-        small = λ q b. omega (arith, row-limit m s n row h 1024 low q b);
+        small = λ q b. omega (arith, row-limit m s n row h largestCost (λ k c. sizes-cost m sizes k c .1) q b);
       }
-    where
-      low : (k : ℕ) → k < count m → cost m k ≤ 1024
-      low k b = rw (cost-is m k) (sizes .action k b .time .1)
 
-  pub row-ticked : {mask : ℕ} (new : List ℕ) → Marks m (s + n) mask → Ticked m mask row new
+  pub row-ticked : {mask : ℕ} (new : List ℕ) → Marks m (s + n) mask → Ticked On m mask row new
       → IsRow m (asked m) s (n + 1) new
   row-ticked new g moved = row-moved m (asked m) s (sizes-closed m sizes) n row new h (moved .moved (s + n) g)
 
@@ -44,7 +42,7 @@ module _ {m : Machine} (sizes : MachineSizes m) {s n : ℕ} {row : List ℕ} (h 
   pub row-idle : {mask : ℕ} → Marks m (s + n) mask → mask ≡ 0 → IsRow m (asked m) s (n + 1) row
   row-idle g e =
       row-moved m (asked m) s (sizes-closed m sizes) n row row h
-      (record { at = λ q l. most-end most-begin rest-begin e (brings-idle m (figure row) q) (s + n) g })
+      (record { at = λ q l. most-end most-begin rest-begin e (brings-idle On m (figure row) q) (s + n) g })
 
   -- its largest figure is the request bound
   pub row-top : {states v : ℕ} → states ≡ m .states → v ≡ most states (figure row) → v ≡ request m s n

@@ -1,5 +1,4 @@
 pub mod Digits
 pub mod Mask
-pub mod Read
 pub mod Row
 pub mod Front

@@ -1,8 +1,8 @@
--- The mask of a tick: what it says of the machine's instants, and a loop that takes its digits off one by one.
+-- The mask of a tick: what it says of the machine's actions, and a loop that takes its digits off one by one.
 -- Assumes nothing.
 use Prim.Native.Nat.{ℕ, _+_, _/_, _%_, _≤_, _<_, max}
 use mathlib.Core.Path.{_≡_, sym, _∙_, ap}
-use mathlib.Core.Bool.{true, false, true≢false}
+use mathlib.Core.Bool.{true, false, _&&_, true≢false, and-false}
 use mathlib.Core.List.{List, _++_}
 use mathlib.Core.Logic.{Iff·trans, Iff·symm}
 use native.Mathlib.Omega.{arith}
@@ -11,10 +11,9 @@ use native.Mathlib.Nat.{le-antisymm, mod-add-div'}
 use native.Mathlib.Decide.{decLt, ℕ-discrete}
 use lib.ListN.{length, getD, set, length-set, List·getD-append}
 use lib.Seq.{getD-set-same, getD-set-other}
-use Rattle.model.specs.Machine.{Machine, count, divisor}
-use Rattle.model.specs.Legal.{Instant}
-use Rattle.model.specs.Reckon.{instant?, most}
-use Rattle.model.specs.Inside.{Repeats}
+use Rattle.model.specs.Machine.{Machine, count, actionOf, divisor}
+use Rattle.model.specs.Reckon.{instant?, begins?, most}
+use Rattle.model.specs.Inside.{Repeats, may?}
 use Rattle.model.proofs.Tests.{test-same}
 use Rattle.model.proofs.Names.{instant?-law, off-divisor}
 use Rattle.model.proofs.Shift.{repeats-times}
@@ -24,21 +23,25 @@ use Rattle.walk.proofs.Digits.{digits-cong, digits-none, digits-zero, d
 use Rattle.walk.proofs.Digits.{Left, left-begin, left-more, left-next, left-one, left-other, left-none}
 
 -- a mask of no action, and one of some
-pub marks-none : {m : Machine} {t : ℕ} → Marks m t 0 → (j : ℕ) → j < count m → Instant m j t → ⊥
+pub marks-none : {m : Machine} {t : ℕ} → Marks m t 0 → (j : ℕ) → j < count m → may? m t j ≡ true → ⊥
 marks-none {m} {t} h j l i =
-    true≢false (sym (instant?-law m j t .1 i)
-    ∙ digits-zero (λ k. instant? m k t) 0 (count m) j (sym (h .is)) (omega arith) (omega arith))
+    true≢false (sym i ∙ digits-zero (may? m t) 0 (count m) j (sym (h .is)) (omega arith) (omega arith))
 
 pub marks-some : {m : Machine} {t mask : ℕ} → Marks m t mask → (mask ≡ 0 → ⊥)
-    → (j : ℕ) × (j < count m) × Instant m j t
+    → (j : ℕ) × (j < count m) × (may? m t j ≡ true)
 marks-some {m} {t} h some =
-    let (j, l, e) = digits-some (λ k. instant? m k t) 0 (count m) (λ z. some (h .is ∙ z)) in
-    (j, omega arith, instant?-law m j t .0 e)
+    let (j, l, e) = digits-some (may? m t) 0 (count m) (λ z. some (h .is ∙ z)) in
+    (j, omega arith, e)
 
 -- a tick that is no multiple of the divisor has no instant
 pub marks-off : (m : Machine) (t g : ℕ) → g ≡ divisor m → (t % g ≡ 0 → ⊥) → Marks m t 0
 marks-off m t g e h =
-    record { is = sym (digits-none (λ k. instant? m k t) 0 (count m) (λ k l. off-divisor m k t (omega arith) (rw e at h))) }
+    record {
+      is =
+          sym (digits-none (may? m t) 0 (count m) (λ k l.
+          ap (λ x. begins? m (actionOf m k .source) && x) (off-divisor m k t (omega arith) (rw e at h))
+          ∙ and-false (begins? m (actionOf m k .source))));
+    }
 
 -- where the instants come again after h ticks, the masks of [0, h) serve for all
 pub marks-remainder : {m : Machine} (h : ℕ) {t mask : ℕ} → Repeats m h → Marks m (t % h) mask → Marks m t mask
@@ -46,7 +49,8 @@ marks-remainder {m} h {t} again g =
     record {
       is =
           g .is
-          ∙ digits-cong (λ k. instant? m k (t % h)) (λ k. instant? m k t) 0 (count m) (λ k l. same k (omega arith));
+          ∙ digits-cong (may? m (t % h)) (may? m t) 0 (count m) (λ k l.
+          ap (λ x. begins? m (actionOf m k .source) && x) (same k (omega arith)));
     }
   where
     same : (k : ℕ) → k < count m → instant? m k (t % h) ≡ instant? m k t
@@ -91,7 +95,7 @@ marked-window {m} {from} {n} {masks} beyond h e =
 
 -- `left` has the digits of the mask from action j on
 pub record Rest (m : Machine) (mask j left : ℕ) : Type 0 where
-  pub at : (t : ℕ) → Marks m t mask → Left (λ k. instant? m k t) (count m) j left
+  pub at : (t : ℕ) → Marks m t mask → Left (may? m t) (count m) j left
 
 module _ {m : Machine} {mask : ℕ} where
   pub rest-begin : Rest m mask 0 mask
@@ -101,10 +105,10 @@ module _ {m : Machine} {mask : ℕ} where
     pub rest-more : (left ≡ 0 → ⊥) → j < count m
     rest-more = left-more (h .at t marks)
 
-    pub rest-one : j < count m → left % 2 ≡ 1 → instant? m j t ≡ true
+    pub rest-one : j < count m → left % 2 ≡ 1 → may? m t j ≡ true
     rest-one = left-one (h .at t marks)
 
-    pub rest-other : j < count m → (left % 2 ≡ 1 → ⊥) → instant? m j t ≡ false
+    pub rest-other : j < count m → (left % 2 ≡ 1 → ⊥) → may? m t j ≡ false
     rest-other = left-other (h .at t marks)
 
   pub rest-next : {j left : ℕ} → Rest m mask j left → j < count m → Rest m mask (j + 1) (left / 2)
@@ -134,7 +138,7 @@ module _ {m : Machine} {mask : ℕ} {brings : ℕ → ℕ → ℕ} {a : ℕ} whe
 
   -- with no digit left
   pub most-end : {j left v : ℕ} → Most m mask brings a j v → Rest m mask j left → left ≡ 0
-      → ((t k : ℕ) → instant? m k t ≡ false → brings t k ≡ 0)
+      → ((t k : ℕ) → may? m t k ≡ false → brings t k ≡ 0)
       → (t : ℕ) → Marks m t mask → v ≡ max a (most (count m) (brings t))
   most-end {j} h rest e idle t g =
       let left = rest .at t g in

@@ -1,8 +1,8 @@
 -- One action's part in a tick, and what the walk makes of a row.
 -- Assumes nothing.
-use Prim.Native.Nat.{ℕ, _+_, _/_, _%_, _≤_, _<_, max}
+use Prim.Native.Nat.{ℕ, _+_, _/_, _%_, _^_, _≤_, _<_, max}
 use mathlib.Core.Path.{_≡_, refl, sym, _∙_, ap}
-use mathlib.Core.Bool.{Bool, true, false, cond, _&&_, true≢false}
+use mathlib.Core.Bool.{true, false, cond}
 use mathlib.Core.List.{List}
 use native.Mathlib.Omega.{arith}
 use native.Mathlib.Nat.{max-eq-left, max-eq-right, le-of-lt}
@@ -10,113 +10,133 @@ use native.Mathlib.Decide.{ℕ-discrete}
 use lib.Dec.{eqb}
 use lib.ListN.{length, set, length-set}
 use lib.Seq.{getD-set-same, getD-set-other, set-getD}
-use borrow.Author.Tests.{eq-eqb, ne-eqb, lt-ltb, le-leb, lt-leb}
-use Rattle.model.specs.Machine.{Action, Machine, count, actionOf}
+use borrow.Author.Tests.{eq-eqb, ne-eqb, le-leb, lt-leb}
+use Rattle.model.specs.declared.Way.{Way}
+use Rattle.model.specs.declared.Way.the-variants.{On, Back}
+use Rattle.model.specs.Machine.{Machine, count, actionOf}
 use Rattle.model.specs.Legal.{asked}
 use Rattle.model.specs.Sizes.{MachineSizes}
-use Rattle.model.specs.Reckon.{instant?, begins?, most}
-use Rattle.model.specs.Inside.{figure, brings, dueThen}
+use Rattle.model.specs.Reckon.{most}
+use Rattle.model.specs.Inside.{may?, behind, ahead, figure, brings, dueThen}
 use Rattle.model.proofs.Tests.{leb-same}
-use Rattle.model.proofs.Names.{begins?-is, cost-is}
-use Rattle.walk.specs.Inside.{brought, pushed, dueOr, Ticked, DueWithin}
+use Rattle.model.proofs.Accepted.{sizes-cost}
+use Rattle.sheet.specs.declared.Entry.{Entry}
+use Rattle.sheet.specs.Inside.{machineAt, IsEntry}
+use Rattle.sheet.proofs.Entries.{entry-sizes, has-action}
+use Rattle.walk.specs.Inside.{Joins, brought, pushed, dueOr, Ticked, DueWithin}
 use Rattle.walk.proofs.Mask.{Rest, rest-begin, rest-one, rest-other, rest-next}
 use Rattle.walk.proofs.Mask.{Most, most-begin, most-more, most-end}
 
--- an action raises a row at its sink alone
-module _ (a : Action) (old row : List ℕ) {sink v : ℕ} (e : sink ≡ a .sink) (f : v ≡ brought a old) where
-  pub pushed-more : figure row sink < v → set row sink v ≡ pushed a old row
-  pushed-more l = ap (set row sink) (sym (max-eq-right (le-of-lt l))) ∙ rw (e, f)
+-- both ends of an action are states
+module _ {m : Machine} (sizes : MachineSizes m) {k : ℕ} (l : k < count m) where
+  left-state : (way : Way) → behind way (actionOf m k) < m .states
+  left-state On = sizes .action k l .source
+  left-state Back = sizes .action k l .sink
 
-  pub pushed-same : v ≤ figure row sink → row ≡ pushed a old row
-  pushed-same l = sym (set-getD row sink 0) ∙ ap (set row sink) (sym (max-eq-left l)) ∙ rw (e, f)
+  reached : (way : Way) → ahead way (actionOf m k) < m .states
+  reached On = sizes .action k l .sink
+  reached Back = sizes .action k l .source
 
-pushed-at : (a : Action) (old row : List ℕ) → a .sink < length row → (q : ℕ)
-    → figure (pushed a old row) q ≡ max (figure row q) (cond (eqb (a .sink) q) (brought a old) 0)
-pushed-at a old row l q =
-    elim (ℕ-discrete q (a .sink)) [
-      | yes e ↦ rw (e, eq-eqb (a .sink) (a .sink) refl) (getD-set-same row (a .sink) _ 0 l)
-      | no d ↦ getD-set-other row (a .sink) q _ 0 d ∙ rw (ne-eqb (a .sink) q (λ z. d (sym z))) (omega arith)
-    ]
+-- an action of a machine joins two states of a row
+pub entry-joins : {b : List ℕ} {e : Entry} {j : ℕ} → IsEntry b e → j < count (machineAt b e) → (row : List ℕ)
+    → 16 ≤ length row → ((q : ℕ) → q < machineAt b e .states → figure row q < 2 ^ 31) → Joins b e j row
+entry-joins {b} {e} {j} h l row long small =
+    let sizes = entry-sizes h in
+    record {
+      action = has-action h l;
+      long = long;
+      leaves = λ way. omega (arith, left-state sizes l way, sizes .states .1);
+      reaches = λ way. omega (arith, reached sizes l way, sizes .states .1);
+      fits = λ way. omega (arith, small _ (left-state sizes l way), sizes-cost (machineAt b e) sizes j l .1);
+    }
+
+-- it raises a row at the state that it leads to, and nowhere else
+module _ (way : Way) (m : Machine) (k : ℕ) (old row : List ℕ) where
+  module _ {state v : ℕ} (e : state ≡ ahead way (actionOf m k)) (f : v ≡ brought way m k old) where
+    pub pushed-more : figure row state < v → set row state v ≡ pushed way m k old row
+    pushed-more l = ap (set row state) (sym (max-eq-right (le-of-lt l))) ∙ rw (e, f)
+
+    pub pushed-same : v ≤ figure row state → row ≡ pushed way m k old row
+    pushed-same l = sym (set-getD row state 0) ∙ ap (set row state) (sym (max-eq-left l)) ∙ rw (e, f)
+
+  pushed-at : ahead way (actionOf m k) < length row → (q : ℕ)
+      → figure (pushed way m k old row) q
+      ≡ max (figure row q) (cond (eqb (ahead way (actionOf m k)) q) (brought way m k old) 0)
+  pushed-at l q =
+      let to = ahead way (actionOf m k) in
+      elim (ℕ-discrete q to) [
+        | yes e ↦ rw (e, eq-eqb to to refl) (getD-set-same row to _ 0 l)
+        | no d ↦ getD-set-other row to q _ 0 d ∙ rw (ne-eqb to q (λ z. d (sym z))) (omega arith)
+      ]
 
 -- what is due counts where it is more
-module _ (a : Action) (row : List ℕ) (rest most : ℕ) where
-  pub due-late : rest < a .deadline → most ≡ dueOr a row rest most
-  due-late l = rw (lt-leb (a .deadline) rest l) (omega arith)
+module _ (m : Machine) (k : ℕ) (row : List ℕ) (rest most : ℕ) where
+  pub due-late : rest < actionOf m k .deadline → most ≡ dueOr m k row rest most
+  due-late l = rw (lt-leb (actionOf m k .deadline) rest l) (omega arith)
 
-  pub due-more : a .deadline ≤ rest → most < brought a row → brought a row ≡ dueOr a row rest most
-  due-more l h = rw (le-leb (a .deadline) rest l) (omega arith)
+  pub due-more : actionOf m k .deadline ≤ rest → most < brought On m k row → brought On m k row ≡ dueOr m k row rest most
+  due-more l h = rw (le-leb (actionOf m k .deadline) rest l) (omega arith)
 
-  pub due-less : a .deadline ≤ rest → brought a row ≤ most → most ≡ dueOr a row rest most
-  due-less l h = rw (le-leb (a .deadline) rest l) (omega arith)
+  pub due-less : actionOf m k .deadline ≤ rest → brought On m k row ≤ most → most ≡ dueOr m k row rest most
+  due-less l h = rw (le-leb (actionOf m k .deadline) rest l) (omega arith)
 
--- what action k brings at a tick at which it has no instant, and at one at which it has
-idle : (a i b : Bool) (v : ℕ) → i ≡ false → cond ((a && i) && b) v 0 ≡ 0
-idle false i b v e = refl
-idle true true b v e = absurd (true≢false e)
-idle true false b v e = refl
+-- what action k brings at a tick at which it may not be triggered, and at one at which it may
+pub brings-idle : (way : Way) (m : Machine) (row : ℕ → ℕ) (q t k : ℕ) → may? m t k ≡ false
+    → brings way m (asked m) t row q k ≡ 0
+brings-idle way m row q t k e = rw e
 
-pub brings-idle : (m : Machine) (row : ℕ → ℕ) (q t k : ℕ) → instant? m k t ≡ false → brings m (asked m) t row q k ≡ 0
-brings-idle m row q t k = idle (begins? m (actionOf m k .source)) (instant? m k t) _ _
+pub due-idle : (m : Machine) (row : ℕ → ℕ) (rest t k : ℕ) → may? m t k ≡ false → dueThen m t (t + rest) row k ≡ 0
+due-idle m row rest t k e = rw e
 
-pub due-idle : (m : Machine) (row : ℕ → ℕ) (rest t k : ℕ) → instant? m k t ≡ false
-    → dueThen m t (t + rest) row k ≡ 0
-due-idle m row rest t k = idle (begins? m (actionOf m k .source)) (instant? m k t) _ _
+module _ (m : Machine) (t k : ℕ) (row : List ℕ) (i : may? m t k ≡ true) where
+  brings-now : (way : Way) (q : ℕ)
+      → brings way m (asked m) t (figure row) q k ≡ cond (eqb (ahead way (actionOf m k)) q) (brought way m k row) 0
+  brings-now way q = rw i
 
-module _ (m : Machine) (t k : ℕ) (row : List ℕ) (i : instant? m k t ≡ true) (l : actionOf m k .source < m .states) where
-  begins : begins? m (actionOf m k .source) ≡ true
-  begins = begins?-is m _ ∙ lt-ltb _ _ l
-
-  pub brings-now : (q : ℕ)
-      → brings m (asked m) t (figure row) q k ≡ cond (eqb (actionOf m k .sink) q) (brought (actionOf m k) row) 0
-  brings-now q = rw (begins, i, cost-is m k)
-
-  pub due-now : (rest most : ℕ)
-      → max most (dueThen m t (t + rest) (figure row) k) ≡ dueOr (actionOf m k) row rest most
+  due-now : (rest most : ℕ) → max most (dueThen m t (t + rest) (figure row) k) ≡ dueOr m k row rest most
   due-now rest most =
       let d = actionOf m k .deadline in
-      rw (begins, i, cost-is m k, leb-same (t + d) (t + rest) d rest (λ a. omega arith, λ a. omega arith))
+      rw (i, leb-same (t + d) (t + rest) d rest (λ a. omega arith, λ a. omega arith))
 
 -- a row in the middle of a tick: actions 0 to j - 1 are through, and `left` has the digits of the others
-pub record Ticking (m : Machine) (mask : ℕ) (old : List ℕ) (j left : ℕ) (row : List ℕ) : Type 0 where
+pub record Ticking (way : Way) (m : Machine) (mask : ℕ) (old : List ℕ) (j left : ℕ) (row : List ℕ) : Type 0 where
   pub long : length row ≡ 16
   pub rest : Rest m mask j left
   pub at : (q : ℕ) → q < m .states
-      → Most m mask (λ t. brings m (asked m) t (figure old) q) (figure old q) j (figure row q)
+      → Most m mask (λ t. brings way m (asked m) t (figure old) q) (figure old q) j (figure row q)
 
-module _ {m : Machine} {mask : ℕ} {old : List ℕ} where
-  pub ticking-begin : length old ≡ 16 → Ticking m mask old 0 mask old
+module _ {way : Way} {m : Machine} {mask : ℕ} {old : List ℕ} where
+  pub ticking-begin : length old ≡ 16 → Ticking way m mask old 0 mask old
   ticking-begin e = record { long = e; rest = rest-begin; at = λ q l. most-begin }
 
-  module _ {j left : ℕ} {row : List ℕ} (h : Ticking m mask old j left row) where
-    pub ticking-push : MachineSizes m → j < count m → left % 2 ≡ 1 → {a : Action} (new : List ℕ) → a ≡ actionOf m j
-        → new ≡ pushed a old row → Ticking m mask old (j + 1) (left / 2) new
-    ticking-push sizes l one {a} new e f =
-        let size = sizes .action j l in
-        let same : new ≡ pushed (actionOf m j) old row = rw (← e) f in
+  module _ {j left : ℕ} {row : List ℕ} (h : Ticking way m mask old j left row) where
+    pub ticking-push : MachineSizes m → j < count m → left % 2 ≡ 1 → {new : List ℕ} → new ≡ pushed way m j old row
+        → Ticking way m mask old (j + 1) (left / 2) new
+    ticking-push sizes l one {new} e =
         record {
-          long = ap length same ∙ length-set row _ _ ∙ h .long;
+          long = ap length e ∙ length-set row _ _ ∙ h .long;
           rest = rest-next (h .rest) l;
           at = λ q b.
               most-more (figure new q) (h .at q b) (λ t g.
-              ap (λ r. figure r q) same
-              ∙ pushed-at (actionOf m j) old row (omega (arith, size .sink, sizes .states .1, h .long)) q
-              ∙ ap (max (figure row q)) (sym (brings-now m t j old (rest-one (h .rest) g l one) (size .source) q)));
+              ap (λ r. figure r q) e
+              ∙ pushed-at way m j old row (omega (arith, reached sizes l way, sizes .states .1, h .long)) q
+              ∙ ap (max (figure row q)) (sym (brings-now m t j old (rest-one (h .rest) g l one) way q)));
         }
 
-    pub ticking-skip : j < count m → (left % 2 ≡ 1 → ⊥) → Ticking m mask old (j + 1) (left / 2) row
+    pub ticking-skip : j < count m → (left % 2 ≡ 1 → ⊥) → Ticking way m mask old (j + 1) (left / 2) row
     ticking-skip l other =
         record {
           long = h .long;
           rest = rest-next (h .rest) l;
           at = λ q b.
               most-more (figure row q) (h .at q b) (λ t g.
-              omega (arith, brings-idle m (figure old) q t j (rest-other (h .rest) g l other)));
+              omega (arith, brings-idle way m (figure old) q t j (rest-other (h .rest) g l other)));
         }
 
-    pub ticking-end : left ≡ 0 → Ticked m mask old row
+    pub ticking-end : left ≡ 0 → Ticked way m mask old row
     ticking-end e =
         record {
-          moved = λ t g. record { at = λ q l. most-end (h .at q l) (h .rest) e (brings-idle m (figure old) q) t g };
+          moved = λ t g. record { at = λ q l. most-end (h .at q l) (h .rest) e (brings-idle way m (figure old) q) t g };
           long = h .long;
         }
 
@@ -131,14 +151,12 @@ module _ {m : Machine} {mask : ℕ} {row : List ℕ} {within : ℕ} where
   ending-begin e f = record { rest = rest-begin; is = rw (f, e) most-begin }
 
   module _ {j left v : ℕ} (h : Ending m mask row within j left v) where
-    pub ending-take : MachineSizes m → j < count m → left % 2 ≡ 1 → {a : Action} (u : ℕ) → a ≡ actionOf m j
-        → u ≡ dueOr a row within v → Ending m mask row within (j + 1) (left / 2) u
-    ending-take sizes l one u e f =
+    pub ending-take : j < count m → left % 2 ≡ 1 → {u : ℕ} → u ≡ dueOr m j row within v
+        → Ending m mask row within (j + 1) (left / 2) u
+    ending-take l one {u} e =
         record {
           rest = rest-next (h .rest) l;
-          is = most-more u (h .is) (λ t g.
-              f ∙ ap (λ a. dueOr a row within v) e
-              ∙ sym (due-now m t j row (rest-one (h .rest) g l one) (sizes .action j l .source) within v));
+          is = most-more u (h .is) (λ t g. e ∙ sym (due-now m t j row (rest-one (h .rest) g l one) within v));
         }
 
     pub ending-skip : j < count m → (left % 2 ≡ 1 → ⊥) → Ending m mask row within (j + 1) (left / 2) v

@@ -1,31 +1,37 @@
 use Prim.Native.Nat.{ℕ, _+_}
 use mathlib.Core.Path.{ap₂}
+use native.Mathlib.Omega.{arith}
 use Rattle.model.specs.Inside.{figure}
 use borrow.Author.Needs.{needs}
 use Rattle.walk.proofs.brought.Statement.{statement}
 use Rattle.walk.proofs.brought.Tie as tie
 
-source-requires : tie.Need-source-requires
-source-requires c κs = search needs
+behind-requires : tie.Need-behind-requires
+behind-requires c κs = search needs
 
 mul-result : tie.Need-mul-result
-mul-result c = search needs
+mul-result c =
+    let start = c .before .before .before in
+    omega (arith, c .behind .ensures, start .pre .leaves (start .args .way))
 
-element-copy-out-result : tie.Need-element-copy-out-result
-element-copy-out-result c = search needs
+shared-slice-read-result : tie.Need-shared-slice-read-result
+shared-slice-read-result c =
+    let start = c .before .before .before .before in
+    omega (arith, c .before .behind .ensures, start .pre .leaves (start .args .way), start .pre .long)
 
-time-requires : tie.Need-time-requires
-time-requires c κs = search needs
+cost-requires : tie.Need-cost-requires
+cost-requires c κs = search needs
 
 returns : tie.Need-returns
 returns c =
-    let row = c .before .before .before .before .args .row .now in
-    ap₂ (λ (q v : ℕ). figure row q + v) (c .before .before .source .ensures) (c .time .ensures)
+    let start = c .before .before .before .before .before in
+    ap₂ (λ (q v : ℕ). figure (start .args .row .now) q + v) (c .before .before .behind .ensures) (c .cost .ensures)
 
 add-result : tie.Need-add-result
-add-result c = record { fits = rw (returns c) (c .before .before .before .before .pre .fits) }
+add-result c =
+    let start = c .before .before .before .before .before in
+    record { fits = rw (returns c) (start .pre .fits (start .args .way)) }
 
 pub brought-spec : {M : Type 1} → statement M
 brought-spec =
-    tie.close
-    (tie.spec source-requires mul-result element-copy-out-result time-requires add-result returns)
+    tie.close (tie.spec behind-requires mul-result shared-slice-read-result cost-requires add-result returns)

@@ -1,6 +1,6 @@
-use Rattle.sheet.specs.Format.{actionAt}
-use Rattle.walk.proofs.Row.{due-late, due-more, due-less}
 use native.Mathlib.Omega.{arith}
+use Rattle.sheet.specs.Inside.{machineAt}
+use Rattle.walk.proofs.Row.{due-late, due-more, due-less}
 use borrow.Author.Needs.{needs}
 use Rattle.walk.proofs.due_or.Statement.{statement}
 use Rattle.walk.proofs.due_or.Tie as tie
@@ -11,7 +11,7 @@ deadline-requires c κs = search needs
 returns : tie.Need-returns
 returns c =
     let start = c .before .before .before .args in
-    due-late (actionAt (start .sheet .now) (start .at)) (start .row .now) _ _
+    due-late (machineAt (start .sheet .now) (start .entry)) (start .j) (start .row .now) _ _
     (omega (arith, c .before .deadline .ensures))
 
 brought-requires : tie.Need-brought-requires
@@ -19,15 +19,16 @@ brought-requires c κs = search needs
 
 returns-2 : tie.Need-returns-2
 returns-2 c =
-    let start = c .before .before .before .before .before .args in
-    rw (c .before .brought .ensures) (due-more (actionAt (start .sheet .now) (start .at)) (start .row .now) _ _
-    (omega (arith, c .before .before .before .deadline .ensures)) (omega (arith, c .before .brought .ensures)))
+    let start = c .before .before .before .before .before .before .args in
+    rw (c .before .brought .ensures)
+    (due-more (machineAt (start .sheet .now) (start .entry)) (start .j) (start .row .now) _ _
+    (omega (arith, c .before .before .before .before .deadline .ensures)) (omega (arith, c .before .brought .ensures)))
 
 returns-3 : tie.Need-returns-3
 returns-3 c =
-    let start = c .before .before .before .before .before .args in
-    due-less (actionAt (start .sheet .now) (start .at)) (start .row .now) _ _
-    (omega (arith, c .before .before .before .deadline .ensures)) (omega (arith, c .before .brought .ensures))
+    let start = c .before .before .before .before .before .before .args in
+    due-less (machineAt (start .sheet .now) (start .entry)) (start .j) (start .row .now) _ _
+    (omega (arith, c .before .before .before .before .deadline .ensures)) (omega (arith, c .before .brought .ensures))
 
 pub due-or-spec : {M : Type 1} → statement M
 due-or-spec = tie.close (tie.spec deadline-requires returns brought-requires returns-2 returns-3)

@@ -1,5 +1,5 @@
 use Rattle.walk.proofs.Mask.{Marking, marking-begin, marking-more, marking-end}
-use Rattle.walk.specs.Inside.{machineAt}
+use Rattle.sheet.specs.Inside.{machineAt}
 use lib.ListN.{length}
 use Prim.Native.Nat.{_-_}
 use mathlib.Core.Path.{refl}
@@ -13,10 +13,9 @@ Inv-loop sheet entry from masks₀ divisor k₀ masks k = Marking (machineAt she
 abbrev μ-loop : tie.MeasureT-loop
 μ-loop sheet entry from masks₀ divisor k₀ masks k = length masks₀ - k
 
-divisor-of-requires : tie.Need-divisor-of-requires Inv-loop μ-loop
-divisor-of-requires c κs =
-    let entry = c .before .before .pre .0 in
-    (entry .accepted .ranged .filled, entry .known)
+divisor-requires : tie.Need-divisor-requires Inv-loop μ-loop
+divisor-requires c κs =
+    c .before .before .pre .0 .read
 
 loop-holds : tie.Need-loop-holds Inv-loop μ-loop
 loop-holds c = marking-begin refl
@@ -30,7 +29,7 @@ add-mask-at c = omega arith
 mask-at-requires : tie.Need-mask-at-requires Inv-loop μ-loop
 mask-at-requires c κs =
     let read = c .before .before in
-    (read .before .before .before .pre .0, read .divisor-of .ensures)
+    (read .before .before .before .pre .0, read .divisor .ensures)
 
 mul-masks : tie.Need-mul-masks Inv-loop μ-loop
 mul-masks c = omega arith
@@ -60,7 +59,7 @@ marks-spec =
     (tie.spec
     Inv-loop
     μ-loop
-    divisor-of-requires
+    divisor-requires
     loop-holds
     cast-mask-at
     add-mask-at

@@ -4,13 +4,16 @@ use mathlib.Core.Path.{_≡_, sym, _∙_}
 use native.Mathlib.Omega.{arith}
 use lib.ListN.{length, take, replicate, length-replicate}
 use lib.Seq.{length-take-le}
+use Rattle.model.specs.Limits.{longestWindow}
+use Rattle.model.specs.Inside.{InRange}
 use borrow.Author.Needs.{needs}
 use Rattle.walk.proofs.window_marks.Statement.{statement}
 use Rattle.walk.proofs.window_marks.Tie as tie
 
 -- the part of the array that is lent
-part : {n : ℕ} → n ≤ 2048 → length {A = ℕ} (take (n + 1) (replicate 2049 0)) ≡ n + 1
-part {n} l = length-take-le (n + 1) (replicate 2049 0) (rw length-replicate (omega arith))
+part : (s n : ℕ) → InRange s (s + n) → length {A = ℕ} (take (n + 1) (replicate (longestWindow + 1) 0)) ≡ n + 1
+part s n h =
+    length-take-le (n + 1) (replicate (longestWindow + 1) 0) (rw length-replicate (omega (arith, h .short)))
 
 add-masks : tie.Need-add-masks
 add-masks c = search needs
@@ -19,16 +22,16 @@ array-borrow-prefix-masks : tie.Need-array-borrow-prefix-masks
 array-borrow-prefix-masks c = search needs
 
 slice-aggregate-marks : tie.Need-slice-aggregate-marks
-slice-aggregate-marks c = sym (part (c .before .before .pre .1))
+slice-aggregate-marks c = sym (part _ _ (c .before .before .pre .1))
 
 marks-requires : tie.Need-marks-requires
 marks-requires c κs =
     let pre = c .before .before .pre in
-    (pre .0, rw (part (pre .1)) (omega (arith, pre .2)))
+    (pre .0, rw (part _ _ (pre .1)) (omega (arith, pre .1 .near)))
 
 returns : tie.Need-returns
 returns c =
-    let sized = c .before .marks .kept .1 .1 .1 .0 ∙ part (c .before .before .before .before .pre .1) in
+    let sized = c .before .marks .kept .1 .1 .1 .0 ∙ part _ _ (c .before .before .before .before .pre .1) in
     marked-window _ (c .before .marks .ensures) sized
 
 pub window-marks-spec : {M : Type 1} → statement M
