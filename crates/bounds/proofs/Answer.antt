@@ -17,22 +17,17 @@ use Rattle.reply.proofs.Refusals.{otherwise-answered}
 use Rattle.reply.proofs.Unique.{answer-unique}
 use Rattle.sheet.specs.Format.{decode}
 use Rattle.window.specs.Window.{questionRefusal}
+use Rattle.window.specs.Inside.{Proper}
 use Rattle.window.proofs.Asked.{proper}
 use Rattle.bounds.specs.Bounds.{requestReply, demandReply}
-use Rattle.bounds.specs.Inside.{Asks}
 
 -- a question that is not refused is proper
 module _ (b : List ℕ) (i s f : ℕ) (kept : questionRefusal b i s f ≡ none) where
-  pub question-asks : (n : ℕ) → s + n ≡ f → Asks b i s n
-  question-asks n e =
-      let p = proper b i s f kept in
-      record { accepted = p .accepted; known = p .known; short = omega arith; near = omega arith }
-
   between : s + (f - s) ≡ f
-  between = omega (arith, proper b i s f kept .forward)
+  between = omega (arith, proper b i s f kept .window .forward)
 
-  pub window-asks : Asks b i s (f - s)
-  window-asks = question-asks (f - s) between
+  pub window-proper : Proper b i s (s + (f - s))
+  window-proper = rw between (proper b i s f kept)
 
   pub request-answer : {v : ℕ} → v ≡ request (machineOf (decode b) i) s (f - s)
       → (paper (Value v) ≡ requestReply b i s f) × IsRequestBound (machineOf (decode b) i) s f v

@@ -1,22 +1,25 @@
 // The bounds of a machine in a window: the request bound, the demand bound, and the request table.
 // Definitions: specs/Bounds.antt and specs/Table.antt.
 ghost use mathlib.Core.Path.{_≡_};
-ghost use Prim.Native.Nat.{_+_, _≤_, _<_};
+ghost use Prim.Native.Nat.{_+_, _<_};
 ghost use lib.ListN.{length as ListN·length};
 ghost use Rattle.model.specs.Machine.{machineOf};
 ghost use Rattle.model.specs.Legal.{IsRequestBound, IsDemandBound};
 ghost use Rattle.model.specs.Reckon.{request as Reckon·request, demand as Reckon·demand};
 ghost use Rattle.reply.specs.Answer.{paper, Figure};
 ghost use Rattle.reply.specs.Tabled.{paper as Table·paper};
+ghost use Rattle.model.specs.Inside.{InRange};
 ghost use Rattle.sheet.specs.Format.{decode};
-ghost use Rattle.walk.specs.Inside.{machineAt, IsEntry};
+ghost use Rattle.sheet.specs.Inside.{machineAt, IsEntry};
+ghost use Rattle.window.specs.Inside.{Proper};
 ghost use Rattle.bounds.specs.Bounds.{requestReply, demandReply};
 ghost use Rattle.bounds.specs.Table.{tableReply, withTable, tableWords, HoldsBounds};
-ghost use Rattle.bounds.specs.Inside.{Asks, IsFront};
+ghost use Rattle.bounds.specs.Inside.{IsFront};
+use model::Way;
 use reply::Answer;
 use reply::Rule;
 use reply::Tabled;
-use walk::Entry;
+use sheet::Entry;
 
 // The request bound of [from, to) of a machine.
 pub fn request(sheet: &[u8], machine: u32, from: u32, to: u32) -> Answer
@@ -62,10 +65,10 @@ pub fn table(sheet: &[u8], machine: u32, from: u32, length: u32, words: &mut [u3
 
 // The request bound of [from, from + length).
 fn request_of(sheet: &[u8], machine: usize, from: u32, length: u32) -> u32
-    requires { ⌜ Asks (now sheet) machine from length ⌝ }
+    requires { ⌜ Proper (now sheet) machine from (from + length) ⌝ }
     ensures { λ r. ⌜ r ≡ Reckon·request (machineOf (decode (now (sheet .entry))) machine) from length ⌝ }
 {
-    let entry = walk::entry_of(sheet, machine);
+    let entry = sheet::entry_of(sheet, machine);
     let front = walk_to(sheet, entry, from, length);
     let row = front.row;
     walk::top(&row, entry.states)
@@ -73,13 +76,13 @@ fn request_of(sheet: &[u8], machine: usize, from: u32, length: u32) -> u32
 
 // The demand bound of [from, from + length].
 fn demand_of(sheet: &[u8], machine: usize, from: u32, length: u32) -> u32
-    requires { ⌜ Asks (now sheet) machine from length ⌝ }
+    requires { ⌜ Proper (now sheet) machine from (from + length) ⌝ }
     ensures { λ r. ⌜ r ≡ Reckon·demand (machineOf (decode (now (sheet .entry))) machine) from length ⌝ }
 {
-    let entry = walk::entry_of(sheet, machine);
+    let entry = sheet::entry_of(sheet, machine);
     let front = walk_to(sheet, entry, from, length);
     let before = front.before;
-    walk::due_within(sheet, entry, front.mask, &before, length - front.last)
+    walk::due_within(sheet, entry, front.mask, before, length - front.last)
 }
 
 // How far a walk has come: the row, and the number of ticks up to the machine's last instant, its
@@ -93,7 +96,7 @@ struct Front {
 
 // Walks over the ticks of [from, from + length).
 fn walk_to(sheet: &[u8], entry: Entry, from: u32, length: u32) -> Front
-    requires { ⌜ IsEntry (now sheet) entry × (length ≤ 2048) × (from + length ≤ 1000000) ⌝ }
+    requires { ⌜ IsEntry (now sheet) entry × InRange from (from + length) ⌝ }
     ensures { λ r. ⌜ IsFront (machineAt (now (sheet .entry)) entry) from length r ⌝ }
 {
     let masks = walk::window_marks(sheet, entry, from, length as usize);
@@ -108,7 +111,7 @@ fn walk_to(sheet: &[u8], entry: Entry, from: u32, length: u32) -> Front
             last = n;
             mask = now;
             before = row;
-            let next = walk::tick(sheet, entry, now, row);
+            let next = walk::tick(sheet, entry, now, Way::On, row);
             row = next;
         }
         n += 1;
@@ -123,16 +126,16 @@ fn walk_to(sheet: &[u8], entry: Entry, from: u32, length: u32) -> Front
 
 // Writes the request bounds of [from, from + n) for n from 0 to `length`.
 fn fill(sheet: &[u8], machine: usize, from: u32, length: u32, words: &mut [u32])
-    requires { ⌜ Asks (now sheet) machine from length × (length < ListN·length (now words)) ⌝ }
+    requires { ⌜ Proper (now sheet) machine from (from + length) × (length < ListN·length (now words)) ⌝ }
     ensures { λ _. ⌜ now (words .exit) ≡ withTable (now (sheet .entry)) machine from length (now (words .entry)) ⌝ }
 {
-    let entry = walk::entry_of(sheet, machine);
+    let entry = sheet::entry_of(sheet, machine);
     let masks = walk::window_marks(sheet, entry, from, length as usize);
     let mut row = [0u32; 16];
     let mut n = 0;
     while n <= length {
         words[n as usize] = walk::top(&row, entry.states);
-        let next = walk::tick(sheet, entry, masks[n as usize], row);
+        let next = walk::tick(sheet, entry, masks[n as usize], Way::On, row);
         row = next;
         n += 1;
     }

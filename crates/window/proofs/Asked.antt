@@ -10,6 +10,7 @@ use borrow.Author.Tests.{leb-true, lt-ltb, le-ltb, ltb-true}
 use Rattle.reply.specs.declared.Refusal.{Refusal}
 use Rattle.reply.specs.Reply.{refusal, unless}
 use Rattle.reply.proofs.Refusals.{unless-none, orElse-none, orElse-found, orElse-clear}
+use Rattle.model.specs.Limits.{longestWindow, lastTick}
 use Rattle.sheet.specs.Format.{machineCount}
 use Rattle.sheet.specs.Check.{refusalOf}
 use Rattle.sheet.proofs.Tests.{both}
@@ -44,12 +45,15 @@ unfolding questionRefusal
 proper b i s f e =
     let (sheet, rest) = orElse-none (refusalOf b) _ e in
     let (machine, window) = orElse-none (rule10 b i) (rule11 s f) rest in
-    let (two, near) = both (leb s f && leb f (s + 2048)) (leb f 1000000) (unless-none _ (refusal 11 0 0) window) in
-    let (forward, short) = both (leb s f) (leb f (s + 2048)) two in
+    let (two, near) = both (leb s f && leb f (s + longestWindow)) _ (unless-none _ (refusal 11 0 0) window) in
+    let (forward, short) = both (leb s f) _ two in
     record {
       accepted = not-refused b sheet;
       known = ltb-true i (machineCount b) (unless-none _ (refusal 10 0 0) machine);
-      forward = leb-true s f forward;
-      short = leb-true f (s + 2048) short;
-      near = leb-true f 1000000 near;
+      window =
+          record {
+            forward = leb-true s f forward;
+            short = leb-true f (s + longestWindow) short;
+            near = leb-true f lastTick near;
+          };
     }

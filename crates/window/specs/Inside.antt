@@ -1,6 +1,7 @@
 -- What the contracts of inner functions cite, and no reader has to believe.
-use Prim.Native.Nat.{ℕ, _+_, _≤_, _<_}
+use Prim.Native.Nat.{ℕ, _<_}
 use mathlib.Core.List.{List}
+use Rattle.model.specs.Inside.{InRange}
 use Rattle.sheet.specs.Format.{machineCount}
 use Rattle.sheet.specs.Inside.{Accepted}
 
@@ -8,6 +9,4 @@ use Rattle.sheet.specs.Inside.{Accepted}
 pub record Proper (b : List ℕ) (i s f : ℕ) : Type 0 where
   pub accepted : Accepted b
   pub known : i < machineCount b
-  pub forward : s ≤ f
-  pub short : f ≤ s + 2048
-  pub near : f ≤ 1000000
+  pub window : InRange s f

@@ -6,12 +6,13 @@ use mathlib.Core.Option.{Option}
 use lib.Dec.{leb, ltb}
 use Rattle.reply.specs.declared.Refusal.{Refusal}
 use Rattle.reply.specs.Reply.{refusal, unless, _orElse_}
+use Rattle.model.specs.Limits.{longestWindow, lastTick}
 use Rattle.sheet.specs.Format.{machineCount}
 use Rattle.sheet.specs.Check.{refusalOf}
 
 -- s at most f, f minus s at most 2,048, f at most 1,000,000
 abbrev pub windowInRange : ℕ → ℕ → Bool
-windowInRange s f = leb s f && leb f (s + 2048) && leb f 1000000
+windowInRange s f = leb s f && leb f (s + longestWindow) && leb f lastTick
 
 -- 10: machine asked for is not in the sheet
 abbrev pub rule10 : List ℕ → ℕ → Option Refusal

@@ -4,6 +4,8 @@ ghost use mathlib.Core.Path.{_≡_};
 ghost use Prim.Native.Nat.{_<_, _^_};
 ghost use Rattle.reply.specs.Inside.{found};
 ghost use Rattle.window.specs.Window.{questionRefusal, windowInRange as Window·inRange};
+use model::LAST_TICK;
+use model::LONGEST_WINDOW;
 use reply::Checked;
 use reply::Rule;
 
@@ -34,5 +36,5 @@ fn in_range(from: u64, to: u64) -> bool
     requires { ⌜ from < 2 ^ 32 ⌝ }
     ensures { λ r. ⌜ r ≡ Window·inRange from to ⌝ }
 {
-    (from <= to) & (to <= from + 2048) & (to <= 1000000)
+    (from <= to) & (to <= from + LONGEST_WINDOW as u64) & (to <= LAST_TICK as u64)
 }

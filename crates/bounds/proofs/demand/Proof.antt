@@ -5,7 +5,7 @@ use Rattle.reply.specs.Inside.{found}
 use Rattle.reply.proofs.Refusals.{otherwise-refused}
 use Rattle.window.specs.Window.{questionRefusal}
 use Rattle.window.proofs.Asked.{proper}
-use Rattle.bounds.proofs.Answer.{window-asks, demand-answer}
+use Rattle.bounds.proofs.Answer.{window-proper, demand-answer}
 use borrow.Author.Needs.{needs}
 use Rattle.bounds.proofs.demand.Statement.{statement}
 use Rattle.bounds.proofs.demand.Tie as tie
@@ -31,10 +31,10 @@ enum-told : tie.Need-enum-told
 enum-told c = search needs
 
 sub-demand-of : tie.Need-sub-demand-of
-sub-demand-of c = omega (arith, proper _ _ _ _ (kept c) .forward)
+sub-demand-of c = omega (arith, proper _ _ _ _ (kept c) .window .forward)
 
 demand-of-requires : tie.Need-demand-of-requires
-demand-of-requires c κs = window-asks _ _ _ _ (kept c)
+demand-of-requires c κs = window-proper _ _ _ _ (kept c)
 
 returns-2 : tie.Need-returns-2
 returns-2 c = demand-answer _ _ _ _ (kept (c .before)) (c .demand-of .ensures)

@@ -1,5 +1,5 @@
 use Rattle.walk.proofs.Front.{row-ready, last-demand}
-use Rattle.walk.proofs.Read.{entry-sizes}
+use Rattle.sheet.proofs.Entries.{entry-sizes}
 use Rattle.sheet.specs.Format.{decode}
 use Rattle.model.specs.Reckon.{demand}
 use Rattle.model.specs.Machine.{machineOf}
@@ -21,15 +21,15 @@ sub-due-within c = search needs
 
 due-within-requires : tie.Need-due-within-requires
 due-within-requires c κs =
-    let entry = c .before .before .before .before .entry-of .ensures .1 in
-    let last = c .before .before .before .walk-to .ensures .last in
+    let entry = c .before .before .before .entry-of .ensures .1 in
+    let last = c .before .before .walk-to .ensures .last in
     (entry, row-ready (entry-sizes entry) (last .figures) (omega (arith, last .last .early)) (last .marks))
 
 returns : tie.Need-returns
 returns c =
-    let start = c .before .before .before .before .before .before .before .args in
-    let (same, entry) = c .before .before .before .before .before .entry-of .ensures in
-    let last = c .before .before .before .before .walk-to .ensures .last in
+    let start = c .before .before .before .before .before .before .args in
+    let (same, entry) = c .before .before .before .before .entry-of .ensures in
+    let last = c .before .before .before .walk-to .ensures .last in
     last-demand (entry-sizes entry) last (omega (arith, last .last .early)) (c .due-within .ensures)
     ∙ ap (λ (i : ℕ). demand (machineOf (decode (start .sheet .now)) i) (start .from) (start .length)) same
 

@@ -1,8 +1,9 @@
 use Prim.Native.Nat.{_+_, _-_, _≤_}
 use native.Mathlib.Omega.{arith}
 use lib.ListN.{getD}
-use Rattle.walk.specs.Inside.{machineAt, IsEntry, Marks}
-use Rattle.walk.proofs.Read.{entry-sizes}
+use Rattle.sheet.specs.Inside.{machineAt, IsEntry}
+use Rattle.walk.specs.Inside.{Marks}
+use Rattle.sheet.proofs.Entries.{entry-sizes}
 use Rattle.walk.proofs.Front.{row-zeros, row-ready, row-ticked, row-top}
 use Rattle.bounds.proofs.Filling.{Filling, filling-begin, filling-more, filling-end}
 use Rattle.bounds.proofs.fill.Statement.{statement}
@@ -32,7 +33,7 @@ entry-of-requires : tie.Need-entry-of-requires Inv-loop μ-loop
 entry-of-requires c κs = (c .before .before .pre .0 .accepted, c .before .before .pre .0 .known)
 
 window-marks-requires : tie.Need-window-marks-requires Inv-loop μ-loop
-window-marks-requires c κs = (c .entry-of .ensures .1, omega arith, omega arith)
+window-marks-requires c κs = (c .entry-of .ensures .1, c .before .before .before .pre .0 .window)
 
 loop-holds : tie.Need-loop-holds Inv-loop μ-loop
 loop-holds c = (omega arith, filling-begin (row-zeros (entry-sizes (c .before .entry-of .ensures .1)) _))
@@ -40,7 +41,7 @@ loop-holds c = (omega arith, filling-begin (row-zeros (entry-sizes (c .before .e
 top-requires : tie.Need-top-requires Inv-loop μ-loop
 top-requires c κs =
     let entry = entry-here (c .before) in
-    omega (arith, entry .states, entry-sizes entry .states .1)
+    omega (arith, entry .read .states, entry-sizes entry .states .1)
 
 cast-words : tie.Need-cast-words Inv-loop μ-loop
 cast-words c = omega arith
@@ -64,7 +65,9 @@ tick-requires : tie.Need-tick-requires Inv-loop μ-loop
 tick-requires c κs =
     let turn = c .before .before in
     let entry = entry-here turn in
-    (entry, row-ready (entry-sizes entry) (turn .before .loop .inv .1 .figures) (omega arith) (marked turn))
+    let window = turn .before .before .before .before .before .before .pre .0 .window in
+    let row = turn .before .loop .inv .1 .figures in
+    (entry, row-ready (entry-sizes entry) row (omega (arith, window .near)) (marked turn))
 
 add-n : tie.Need-add-n Inv-loop μ-loop
 add-n c = omega arith
@@ -79,7 +82,7 @@ loop-again c =
     let entry = entry-here turn in (
       omega arith,
       filling-more inv (omega arith)
-          (row-top (entry-sizes entry) (inv .figures) (entry .states) (c .before .top .ensures))
+          (row-top (entry-sizes entry) (inv .figures) (entry .read .states) (c .before .top .ensures))
           (row-ticked (entry-sizes entry) (inv .figures) _ (marked turn) (c .tick .ensures)),
     )
 

@@ -5,7 +5,7 @@ use Rattle.reply.specs.Inside.{found}
 use Rattle.reply.proofs.Refusals.{otherwise-refused}
 use Rattle.window.specs.Window.{questionRefusal}
 use Rattle.window.proofs.Asked.{proper}
-use Rattle.bounds.proofs.Answer.{window-asks, request-answer}
+use Rattle.bounds.proofs.Answer.{window-proper, request-answer}
 use borrow.Author.Needs.{needs}
 use Rattle.bounds.proofs.request.Statement.{statement}
 use Rattle.bounds.proofs.request.Tie as tie
@@ -31,10 +31,10 @@ enum-told : tie.Need-enum-told
 enum-told c = search needs
 
 sub-request-of : tie.Need-sub-request-of
-sub-request-of c = omega (arith, proper _ _ _ _ (kept c) .forward)
+sub-request-of c = omega (arith, proper _ _ _ _ (kept c) .window .forward)
 
 request-of-requires : tie.Need-request-of-requires
-request-of-requires c κs = window-asks _ _ _ _ (kept c)
+request-of-requires c κs = window-proper _ _ _ _ (kept c)
 
 returns-2 : tie.Need-returns-2
 returns-2 c = request-answer _ _ _ _ (kept (c .before)) (c .request-of .ensures)

@@ -4,7 +4,7 @@ use mathlib.Core.Option.{none}
 use native.Mathlib.Omega.{arith}
 use Rattle.reply.specs.Inside.{found}
 use Rattle.window.specs.Window.{questionRefusal}
-use Rattle.bounds.proofs.Answer.{question-asks}
+use Rattle.window.proofs.Asked.{proper}
 use Rattle.bounds.proofs.Words.{refusal-question, refusal-short, refusal-none, table-refused, table-filled}
 use borrow.Author.Needs.{needs}
 use Rattle.bounds.proofs.table.Statement.{statement}
@@ -43,7 +43,7 @@ returns-2 c =
     (table-refused _ _ _ _ _ (refusal-short _ _ _ _ _ (kept (short .before)) (short .if1 .taken)))
 
 fill-requires : tie.Need-fill-requires
-fill-requires c κs = (question-asks _ _ _ _ (kept (c .before .before)) _ refl, omega (arith, c .before .if1 .left))
+fill-requires c κs = (proper _ _ _ _ (kept (c .before .before)), omega (arith, c .before .if1 .left))
 
 same-length : tie.Need-same-length
 same-length c = search needs

@@ -5,8 +5,9 @@ use native.Mathlib.Omega.{arith}
 use lib.ListN.{getD}
 use Rattle.model.specs.Legal.{asked}
 use Rattle.model.specs.Inside.{IsRow}
-use Rattle.walk.specs.Inside.{machineAt, Marks, Last}
-use Rattle.walk.proofs.Read.{entry-sizes}
+use Rattle.sheet.specs.Inside.{machineAt}
+use Rattle.walk.specs.Inside.{Marks, Last}
+use Rattle.sheet.proofs.Entries.{entry-sizes}
 use Rattle.walk.proofs.Front.{row-zeros, row-ready, row-ticked, row-idle, last-begin, last-instant, last-none}
 use Rattle.bounds.proofs.walk_to.Statement.{statement}
 use Rattle.bounds.proofs.walk_to.Tie as tie
