@@ -2,22 +2,23 @@
 -- Assumes nothing.
 use Prim.Native.Nat.{ℕ, zero, suc, _+_, _-_, _*_, _≤_, _<_, max}
 use mathlib.Core.Path.{_≡_, refl, sym, _∙_, ap, ap₂}
-use mathlib.Core.Bool.{true, cond}
+use mathlib.Core.Bool.{cond}
 use native.Mathlib.Omega.{arith}
 use native.Mathlib.Numerals.{add-one}
 use lib.Dec.{eqb}
-use borrow.Author.Tests.{eq-eqb, ne-eqb, lt-ltb}
-use Rattle.model.specs.Machine.{Action, Machine, count, actionOf}
+use borrow.Author.Tests.{eq-eqb, ne-eqb}
+use Rattle.model.specs.Limits.{longestWindow}
+use Rattle.model.specs.Machine.{Machine, count, actionOf}
 use Rattle.model.specs.Legal.{asked, cost}
 use Rattle.model.specs.Sizes.{MachineSizes}
 use Rattle.model.specs.Reckon.{begins?, most, after, best, request}
-use Rattle.model.specs.Inside.{asks}
-use Rattle.model.proofs.Names.{cost-is, begins?-is, closed-inside}
-use Rattle.model.proofs.Accepted.{sizes-closed}
+use Rattle.model.specs.Inside.{largestCost, InRange, asks}
+use Rattle.model.proofs.Names.{state-begins, closed-inside}
+use Rattle.model.proofs.Accepted.{sizes-cost, sizes-closed}
 use Rattle.model.proofs.Best.{best-limit}
 use Rattle.model.proofs.Back.{best-states}
 use Rattle.model.proofs.Plain.{asks-best, atFirst-none, atFirst-is}
-use Rattle.plain.specs.Inside.{Span, FirstInstant, ActionAsks, StateAsks}
+use Rattle.plain.specs.Inside.{FirstInstant, ActionAsks, StateAsks}
 
 -- a state that has asked all actions has its best
 asks-all : {m : Machine} {state actions t f v : ℕ} → StateAsks m state actions t f v → actions ≡ count m
@@ -28,7 +29,7 @@ asks-all {m} {state} {t = t} {f = f} h e =
     ∙ asks-best m (asked m) (λ k t u. refl) t (f - t) (eqb state)
 
 -- an action, by its first instant u in [t, f)
-module _ {m : Machine} (sizes : MachineSizes m) {k t f u : ℕ} (span : Span t f) (known : k < count m)
+module _ {m : Machine} (sizes : MachineSizes m) {k t f u : ℕ} (span : InRange t f) (known : k < count m)
     (first : FirstInstant m k t f u) where
   pub action-none : u ≡ f → ActionAsks m k t f 0
   action-none e =
@@ -38,7 +39,7 @@ module _ {m : Machine} (sizes : MachineSizes m) {k t f u : ℕ} (span : Span t f
 
   -- the sink state is asked about what is left of the window
   module _ (before : u ≡ f → ⊥) where
-    pub span-left : Span (u + 1) f
+    pub span-left : InRange (u + 1) f
     span-left =
         record {
           forward = omega (arith, first .to);
@@ -46,37 +47,33 @@ module _ {m : Machine} (sizes : MachineSizes m) {k t f u : ℕ} (span : Span t f
           near = span .near;
         }
 
-    module _ {a : Action} {actions time sink v : ℕ} (read : a ≡ actionOf m k) (all : actions ≡ count m)
-        (lasts : time ≡ a .time) (leads : sink ≡ a .sink) (asked-then : StateAsks m sink actions (u + 1) f v) where
-      time-is : time ≡ cost m k
-      time-is = lasts ∙ ap (λ x. x .time) read ∙ sym (cost-is m k)
-
+    module _ {actions own sink v : ℕ} (all : actions ≡ count m) (costs : own ≡ cost m k)
+        (leads : sink ≡ actionOf m k .sink) (asked-then : StateAsks m sink actions (u + 1) f v) where
       rest-is : v ≡ best m (asked m) (u + 1) (f - (u + 1)) (after m k)
       rest-is =
           asks-all asked-then all
-          ∙ ap (λ q. best m (asked m) (u + 1) (f - (u + 1)) (eqb q)) (leads ∙ ap (λ x. x .sink) read)
+          ∙ ap (λ q. best m (asked m) (u + 1) (f - (u + 1)) (eqb q)) leads
 
-      -- no action lasts longer than 1,024 ticks
-      cost-limit : (j : ℕ) → j < count m → cost m j ≤ 1024
-      cost-limit j l = rw (cost-is m j) (sizes .action j l .time .1)
+      cost-limit : (j : ℕ) → j < count m → cost m j ≤ largestCost
+      cost-limit j l = sizes-cost m sizes j l .1
 
-      pub action-small : time + v ≤ 1024 + 2048 * 1024
+      pub action-small : own + v ≤ largestCost + longestWindow * largestCost
       action-small =
           omega (
             arith,
-            time-is,
+            costs,
             rest-is,
             cost-limit k known,
-            best-limit m (asked m) 1024 (λ p. cost-limit (p .action)) (u + 1) (f - (u + 1)) (after m k),
+            best-limit m (asked m) largestCost (λ p. cost-limit (p .action)) (u + 1) (f - (u + 1)) (after m k),
             span .short,
             first .from,
           )
 
-      pub action-some : ActionAsks m k t f (time + v)
+      pub action-some : ActionAsks m k t f (own + v)
       action-some =
           record {
             is =
-                ap₂ _+_ time-is (rw add-one at rest-is)
+                ap₂ _+_ costs (rw add-one at rest-is)
                 ∙ sym (atFirst-is m (asked m) k t (f - t) u (f - suc u)
                 (omega (arith, first .from, first .to, span .forward)) (first .from)
                 (first .now (omega (arith, first .to))) (first .none));
@@ -94,25 +91,22 @@ module _ {m : Machine} {state left t f : ℕ} where
   unfolding most
   state-none e = record { is = rw e refl }
 
-  module _ {a : Action} {source rest : ℕ} (some : left ≡ 0 → ⊥) (others : StateAsks m state (left - 1) t f rest)
-      (read : a ≡ actionOf m (left - 1)) (leaves : source ≡ a .source) where
+  module _ {source rest : ℕ} (some : left ≡ 0 → ⊥) (others : StateAsks m state (left - 1) t f rest)
+      (leaves : source ≡ actionOf m (left - 1) .source) where
     last : most left (asks m (asked m) t (f - t) (eqb state))
         ≡ max rest (asks m (asked m) t (f - t) (eqb state) (left - 1))
     last = rw (others .is) (most-last left (asks m (asked m) t (f - t) (eqb state)) some)
 
-    source-is : source ≡ actionOf m (left - 1) .source
-    source-is = leaves ∙ ap (λ x. x .source) read
-
     -- an action of another state is not asked
     pub state-other : (source ≡ state → ⊥) → StateAsks m state left t f rest
     state-other h =
-        let other = ne-eqb state (actionOf m (left - 1) .source) (λ e. h (source-is ∙ sym e)) in
+        let other = ne-eqb state (actionOf m (left - 1) .source) (λ e. h (leaves ∙ sym e)) in
         record { is = sym (last ∙ rw other (omega arith)) }
 
     pub state-own : {own v : ℕ} → source ≡ state → ActionAsks m (left - 1) t f own → max rest own ≡ v
         → StateAsks m state left t f v
     state-own e h l =
-        let same = eq-eqb state (actionOf m (left - 1) .source) (sym e ∙ source-is) in
+        let same = eq-eqb state (actionOf m (left - 1) .source) (sym e ∙ leaves) in
         record { is = sym (last ∙ rw (same, sym (h .is)) l) }
 
 -- a machine, by the states that have been asked: a first pair may leave each of them
@@ -132,8 +126,7 @@ module _ {m : Machine} {s f : ℕ} where
       record {
         few = omega arith;
         is =
-            let begins : begins? m q ≡ true = begins?-is m q ∙ lt-ltb q (m .states) l in
-            rw (add-one, most, begins) (sym e ∙ ap₂ max (h .is) (asks-all a all));
+            rw (add-one, most, state-begins m q l) (sym e ∙ ap₂ max (h .is) (asks-all a all));
       }
 
   pub asked-all : {q v : ℕ} → MachineSizes m → StatesAsked m s f q v → m .states ≤ q → v ≡ request m s (f - s)

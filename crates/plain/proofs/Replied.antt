@@ -23,19 +23,12 @@ use Rattle.reply.specs.Reply.{answer, refusal, unless, _orElse_, _otherwise_}
 use Rattle.reply.specs.Answer.{paper, Figure}
 use Rattle.reply.proofs.Refusals.{orElse-found, orElse-clear, otherwise-refused, otherwise-answered}
 use Rattle.reply.proofs.Unique.{answer-unique}
+use Rattle.sheet.specs.declared.Entry.{Entry}
 use Rattle.sheet.specs.Format.{decode}
+use Rattle.sheet.specs.Inside.{machineAt}
 use Rattle.window.specs.Window.{questionRefusal}
 use Rattle.window.proofs.Asked.{proper}
-use Rattle.walk.specs.declared.Entry.{Entry}
-use Rattle.walk.specs.Inside.{machineAt}
 use Rattle.plain.specs.Plain.{instants, rule14, plainRefusal, plainReply}
-use Rattle.plain.specs.Inside.{Span}
-
--- a question that is not refused has a window
-pub question-span : (b : List ℕ) (i s f : ℕ) → questionRefusal b i s f ≡ none → Span s f
-question-span b i s f kept =
-    let p = proper b i s f kept in
-    record { forward = p .forward; short = p .short; near = p .near }
 
 module _ (b : List ℕ) (i s f : ℕ) where
   refusal-question : {r : Refusal} → questionRefusal b i s f ≡ some r → plainRefusal b i s f ≡ some r
@@ -69,7 +62,7 @@ module _ (b : List ℕ) (i s f : ℕ) where
     pub plain-taken : {v : ℕ} → n ≤ 6 → v ≡ request (machineAt b e) s (f - s) → Meets b i s f (Value v)
     plain-taken l g =
         let clear = refusal-by b i s f kept ∙ tested ∙ ap (λ t. unless t (refusal 14 0 0)) (le-leb n 6 l) in
-        let window : s + (f - s) ≡ f = omega (arith, question-span b i s f kept .forward) in
+        let window : s + (f - s) ≡ f = omega (arith, proper b i s f kept .window .forward) in
         rw (g, of) (otherwise-answered _ clear, request-is (machineOf (decode b) i) s (f - s) f window)
 
 -- on each window that it takes it agrees with the table method: with `request`, with a row of figures, and with a word

@@ -7,12 +7,6 @@ use Rattle.model.specs.Legal.{Instant, asked}
 use Rattle.model.specs.Reckon.{most}
 use Rattle.model.specs.Inside.{atFirst, asks}
 
--- what is left of a window: [t, f)
-pub record Span (t f : ℕ) : Type 0 where
-  pub forward : t ≤ f
-  pub short : f ≤ t + 2048
-  pub near : f ≤ 1000000
-
 -- u is the first instant of action k in [t, f), or f where there is none
 pub record FirstInstant (m : Machine) (k t f u : ℕ) : Type 0 where
   pub from : t ≤ u

@@ -4,15 +4,16 @@ ghost use mathlib.Core.Path.{_≡_};
 ghost use Prim.Native.Nat.{_-_, _≤_, _<_};
 ghost use Rattle.model.specs.Machine.{count};
 ghost use Rattle.model.specs.Reckon.{request};
-ghost use Rattle.walk.specs.Inside.{machineAt, IsEntry};
-ghost use Rattle.plain.specs.Inside.{Span, ActionAsks, StateAsks};
+ghost use Rattle.model.specs.Inside.{InRange};
+ghost use Rattle.sheet.specs.Inside.{machineAt, IsEntry};
+ghost use Rattle.plain.specs.Inside.{ActionAsks, StateAsks};
 use crate::instant;
+use sheet::Entry;
 use sheet::read;
-use walk::Entry;
 
 // The request bound of [from, to): a first pair may have any source state.
 pub(crate) fn ask_machine(sheet: &[u8], entry: Entry, from: u32, to: u32) -> u32
-    requires { ⌜ IsEntry (now sheet) entry × Span from to ⌝ }
+    requires { ⌜ IsEntry (now sheet) entry × InRange from to ⌝ }
     ensures { λ r. ⌜ r ≡ request (machineAt (now (sheet .entry)) entry) from (to - from) ⌝ }
 {
     let mut best = 0;
@@ -29,7 +30,7 @@ pub(crate) fn ask_machine(sheet: &[u8], entry: Entry, from: u32, to: u32) -> u32
 
 // The most that those of the first `left` actions that leave `state` ask in [t, to).
 fn ask_state(sheet: &[u8], entry: Entry, state: usize, left: usize, t: u32, to: u32) -> u32
-    requires { ⌜ IsEntry (now sheet) entry × Span t to × (left ≤ count (machineAt (now sheet) entry)) ⌝ }
+    requires { ⌜ IsEntry (now sheet) entry × InRange t to × (left ≤ count (machineAt (now sheet) entry)) ⌝ }
     ensures { λ r. ⌜ StateAsks (machineAt (now (sheet .entry)) entry) state left t to r ⌝ }
 {
     if left == 0 {
@@ -37,24 +38,23 @@ fn ask_state(sheet: &[u8], entry: Entry, state: usize, left: usize, t: u32, to: 
     }
     let k = left - 1;
     let rest = ask_state(sheet, entry, state, k, t, to);
-    if read::source(sheet, entry.first + 8 * k) != state {
+    if read::source(sheet, entry, k) != state {
         return rest;
     }
     let asked = ask_action(sheet, entry, k, t, to);
     if rest < asked { asked } else { rest }
 }
 
-// What action k asks in [t, to): at its first instant its time, and the most that its sink then asks.
+// What action k asks in [t, to): at its first instant its cost, and the most that its sink then asks.
 fn ask_action(sheet: &[u8], entry: Entry, k: usize, t: u32, to: u32) -> u32
-    requires { ⌜ IsEntry (now sheet) entry × Span t to × (k < count (machineAt (now sheet) entry)) ⌝ }
+    requires { ⌜ IsEntry (now sheet) entry × InRange t to × (k < count (machineAt (now sheet) entry)) ⌝ }
     ensures { λ r. ⌜ ActionAsks (machineAt (now (sheet .entry)) entry) k t to r ⌝ }
 {
     let instant = instant::first_instant(sheet, entry, k, t, to);
     if instant == to {
         return 0;
     }
-    let at = entry.first + 8 * k;
-    let sink = read::sink(sheet, at);
+    let sink = read::sink(sheet, entry, k);
     let after = ask_state(sheet, entry, sink, entry.actions, instant + 1, to);
-    read::time(sheet, at) + after
+    sheet::cost(sheet, entry, k) + after
 }

@@ -2,29 +2,20 @@
 ghost use mathlib.Core.Path.{_≡_};
 ghost use Prim.Native.Nat.{_-_, _<_};
 ghost use Rattle.model.specs.Machine.{count};
-ghost use Rattle.model.specs.Reckon.{instant?};
-ghost use Rattle.walk.specs.Inside.{machineAt, IsEntry};
+ghost use Rattle.model.specs.Inside.{InRange};
+ghost use Rattle.sheet.specs.Inside.{machineAt, IsEntry};
 ghost use Rattle.plain.specs.Plain.{hasInstant, instants};
-ghost use Rattle.plain.specs.Inside.{Span, FirstInstant};
-use sheet::read;
-use walk::Entry;
-
-// Whether t is an instant of action k.
-fn instant_at(sheet: &[u8], entry: Entry, k: usize, t: u32) -> bool
-    requires { ⌜ IsEntry (now sheet) entry × (k < count (machineAt (now sheet) entry)) ⌝ }
-    ensures { λ r. ⌜ r ≡ instant? (machineAt (now (sheet .entry)) entry) k t ⌝ }
-{
-    t % read::period(sheet, entry.first + 8 * k) == 0
-}
+ghost use Rattle.plain.specs.Inside.{FirstInstant};
+use sheet::Entry;
 
 // The first instant of action k at or after t, or `to` where there is none before it.
 pub(crate) fn first_instant(sheet: &[u8], entry: Entry, k: usize, t: u32, to: u32) -> u32
-    requires { ⌜ IsEntry (now sheet) entry × Span t to × (k < count (machineAt (now sheet) entry)) ⌝ }
+    requires { ⌜ IsEntry (now sheet) entry × InRange t to × (k < count (machineAt (now sheet) entry)) ⌝ }
     ensures { λ r. ⌜ FirstInstant (machineAt (now (sheet .entry)) entry) k t to r ⌝ }
 {
     let mut u = t;
     while u < to {
-        if instant_at(sheet, entry, k, u) {
+        if sheet::has_instant(sheet, entry, k, u) {
             return u;
         }
         u += 1;
@@ -39,7 +30,7 @@ fn has_instant(sheet: &[u8], entry: Entry, t: u32) -> bool
 {
     let mut k = 0;
     while k < entry.actions {
-        if instant_at(sheet, entry, k, t) {
+        if sheet::has_instant(sheet, entry, k, t) {
             return true;
         }
         k += 1;
@@ -49,7 +40,7 @@ fn has_instant(sheet: &[u8], entry: Entry, t: u32) -> bool
 
 // How many instants of the machine [from, to) holds, an instant counted once.
 pub(crate) fn instants_in(sheet: &[u8], entry: Entry, from: u32, to: u32) -> u32
-    requires { ⌜ IsEntry (now sheet) entry × Span from to ⌝ }
+    requires { ⌜ IsEntry (now sheet) entry × InRange from to ⌝ }
     ensures { λ r. ⌜ r ≡ instants (machineAt (now (sheet .entry)) entry) from (to - from) ⌝ }
 {
     let mut number = 0;

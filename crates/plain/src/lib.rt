@@ -22,7 +22,7 @@ pub fn plain(sheet: &[u8], machine: u32, from: u32, to: u32) -> Answer
     if let Rule::Broken(refusal) = rule {
         return Answer::Refused(refusal);
     }
-    let entry = walk::entry_of(sheet, machine as usize);
+    let entry = sheet::entry_of(sheet, machine as usize);
     if 6 < instant::instants_in(sheet, entry, from, to) {
         return Answer::Refused(reply::placeless(14));
     }

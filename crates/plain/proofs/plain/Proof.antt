@@ -3,7 +3,7 @@ use mathlib.Core.Option.{none}
 use Rattle.reply.specs.Inside.{found}
 use Rattle.window.specs.Window.{questionRefusal}
 use Rattle.window.proofs.Asked.{proper}
-use Rattle.plain.proofs.Replied.{question-span, plain-refused, plain-many, plain-taken}
+use Rattle.plain.proofs.Replied.{plain-refused, plain-many, plain-taken}
 use borrow.Author.Needs.{needs}
 use Rattle.plain.proofs.plain.Statement.{statement}
 use Rattle.plain.proofs.plain.Tie as tie
@@ -32,7 +32,7 @@ entry-of-requires : tie.Need-entry-of-requires
 entry-of-requires c κs = let p = proper _ _ _ _ (kept c) in (p .accepted, p .known)
 
 instants-in-requires : tie.Need-instants-in-requires
-instants-in-requires c κs = (c .entry-of .ensures .1, question-span _ _ _ _ (kept (c .before)))
+instants-in-requires c κs = (c .entry-of .ensures .1, proper _ _ _ _ (kept (c .before)) .window)
 
 placeless-requires : tie.Need-placeless-requires
 placeless-requires c κs = search needs

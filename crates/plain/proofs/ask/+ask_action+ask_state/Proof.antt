@@ -5,8 +5,8 @@ use mathlib.Core.Path.{_≡_}
 use native.Mathlib.Omega.{arith}
 use native.Mathlib.Nat.{max-eq-left, max-eq-right, le-of-lt}
 use Rattle.model.specs.Machine.{count}
-use Rattle.walk.specs.Inside.{machineAt}
-use Rattle.walk.proofs.Read.{entry-sizes, entry-inside, entry-action}
+use Rattle.sheet.specs.Inside.{machineAt}
+use Rattle.sheet.proofs.Entries.{entry-sizes, has-action}
 use Rattle.plain.specs.Inside.{StateAsks}
 use Rattle.plain.proofs.Asking.{action-none, span-left, action-small, action-some}
 use Rattle.plain.proofs.Asking.{state-none, state-other, state-own}
@@ -21,7 +21,7 @@ use Rattle.plain.proofs.ask.+ask_action+ask_state.Lts-ask_state as ask-
 use Rattle.plain.proofs.instant.first_instant.Reads as first-instant
 use Rattle.sheet.proofs.read.sink.Reads as sink
 use Rattle.sheet.proofs.read.source.Reads as source
-use Rattle.sheet.proofs.read.time.Reads as time
+use Rattle.sheet.proofs.cost.Reads as cost
 use Rattle.plain.proofs.ask.+ask_action+ask_state.{statement}
 use Rattle.plain.proofs.ask.+ask_action+ask_state.Tie.{close}
 
@@ -53,8 +53,8 @@ module _ (n : ℕ) where
     sink.Learnt,
     ask-state-below,
     ask-state.Post,
-    time.Asked,
-    time.Learnt,
+    cost.Asked,
+    cost.Learnt,
   )
 
   abbrev state-calls : ask-state-lts.Claims
@@ -68,61 +68,49 @@ module _ (n : ℕ) where
       let (entry, span, known) = c .before .before .before .pre .1 in
       action-none (entry-sizes entry) span known (c .before .first-instant .ensures) (c .if1 .taken)
 
-  action-mul-at : ask-action-lts.Need-mul-at action-calls ask-action-at ask-action.Post
-  action-mul-at c =
-      let (entry, span, known) = c .before .before .before .pre .1 in
-      omega (arith, entry-inside entry known)
-
-  action-add-at : ask-action-lts.Need-add-at action-calls ask-action-at ask-action.Post
-  action-add-at c =
-      let (entry, span, known) = c .before .before .before .before .pre .1 in
-      omega (arith, entry-inside entry known)
-
   action-sink-requires : ask-action-lts.Need-sink-requires action-calls ask-action-at ask-action.Post
   action-sink-requires c κs =
-      let (entry, span, known) = c .before .before .before .before .pre .1 in
-      entry-inside entry known
+      let (entry, span, known) = c .before .before .before .pre .1 in
+      has-action entry known
 
   action-add-ask-state : ask-action-lts.Need-add-ask-state action-calls ask-action-at ask-action.Post
   action-add-ask-state c = omega arith
 
   action-ask-state-requires : ask-action-lts.Need-ask-state-requires action-calls ask-action-at ask-action.Post
   action-ask-state-requires c κs =
-      let found = c .before .before in
+      let found = c .before in
       let (measure, (entry, span, known)) = found .before .before .before .pre in
       let first = found .before .first-instant .ensures in
       let few = entry-sizes entry .actions .1 in (
-        omega (arith, first .from, entry .actions),
+        omega (arith, first .from, entry .read .actions),
         (
           entry,
           span-left (entry-sizes entry) span known first (found .if1 .left),
-          omega (arith, entry .actions),
+          omega (arith, entry .read .actions),
         ),
       )
 
-  action-time-requires : ask-action-lts.Need-time-requires action-calls ask-action-at ask-action.Post
-  action-time-requires c κs =
-      let (entry, span, known) = c .before .before .before .before .before .before .pre .1 in
-      entry-inside entry known
+  action-cost-requires : ask-action-lts.Need-cost-requires action-calls ask-action-at ask-action.Post
+  action-cost-requires c κs =
+      let (entry, span, known) = c .before .before .before .before .before .pre .1 in
+      has-action entry known
 
   action-add-result : ask-action-lts.Need-add-result action-calls ask-action-at ask-action.Post
   action-add-result c =
-      let found = c .before .before .before .before in
+      let found = c .before .before .before in
       let (entry, span, known) = found .before .before .before .pre .1 in
       omega (
         arith,
         action-small (entry-sizes entry) span known (found .before .first-instant .ensures) (found .if1 .left)
-            (entry-action entry known) (entry .actions) (c .time .ensures) (c .before .before .sink .ensures)
-            (c .before .ask-state .ensures),
+            (entry .read .actions) (c .cost .ensures) (c .before .before .sink .ensures) (c .before .ask-state .ensures),
       )
 
   action-returns-2 : ask-action-lts.Need-returns-2 action-calls ask-action-at ask-action.Post
   action-returns-2 c =
-      let found = c .before .before .before .before in
+      let found = c .before .before .before in
       let (entry, span, known) = found .before .before .before .pre .1 in
       action-some (entry-sizes entry) span known (found .before .first-instant .ensures) (found .if1 .left)
-      (entry-action entry known) (entry .actions) (c .time .ensures) (c .before .before .sink .ensures)
-      (c .before .ask-state .ensures)
+      (entry .read .actions) (c .cost .ensures) (c .before .before .sink .ensures) (c .before .ask-state .ensures)
 
   -- the action that a state asks next is one of the machine's
   known : (c : ask-state-lts.Else1 state-calls ask-state-at ask-state.Post)
@@ -141,40 +129,30 @@ module _ (n : ℕ) where
       let (measure, (entry, span, few)) = c .before .before .pre in
       (omega arith, (entry, span, omega arith))
 
-  state-mul-source : ask-state-lts.Need-mul-source state-calls ask-state-at ask-state.Post
-  state-mul-source c = omega (arith, entry-inside (c .before .before .before .pre .1 .0) (known (c .before)))
-
-  state-add-source : ask-state-lts.Need-add-source state-calls ask-state-at ask-state.Post
-  state-add-source c =
-      omega (arith, entry-inside (c .before .before .before .before .pre .1 .0) (known (c .before .before)))
-
   state-source-requires : ask-state-lts.Need-source-requires state-calls ask-state-at ask-state.Post
-  state-source-requires c κs = entry-inside (c .before .before .before .before .pre .1 .0) (known (c .before .before))
+  state-source-requires c κs = has-action (c .before .before .before .pre .1 .0) (known (c .before))
 
   state-returns-2 : ask-state-lts.Need-returns-2 state-calls ask-state-at ask-state.Post
   state-returns-2 c =
-      let rest = c .before .before .before in
-      let entry = rest .before .before .before .pre .1 .0 in
-      state-other (rest .before .if1 .left) (rest .ask-state .ensures) (entry-action entry (known (rest .before)))
-      (c .before .source .ensures) (c .if2 .taken)
+      let rest = c .before .before in
+      state-other (rest .before .if1 .left) (rest .ask-state .ensures) (c .before .source .ensures) (c .if2 .taken)
 
   state-ask-action-requires : ask-state-lts.Need-ask-action-requires state-calls ask-state-at ask-state.Post
   state-ask-action-requires c κs =
-      let asks = c .before .before .before .before in
+      let asks = c .before .before .before in
       let (measure, (entry, span, few)) = asks .before .before .pre in
       (omega (arith, asks .if1 .left), (entry, span, known asks))
 
   -- the most of the rest and of an action of the state's own
   own : {v : ℕ} (c : ask-state-lts.After-ask-action state-calls ask-state-at ask-state.Post)
-      → let rest = c .before .before .before .before in
+      → let rest = c .before .before .before in
       let start = rest .before .before .before .args in
       max (rest .ask-state .result) (c .ask-action .result) ≡ v
       → StateAsks (machineAt (start .sheet .now) (start .entry)) (start .state) (start .left) (start .t) (start .to) v
   own c =
-      let rest = c .before .before .before .before in
-      let entry = rest .before .before .before .pre .1 .0 in
-      state-own (rest .before .if1 .left) (rest .ask-state .ensures) (entry-action entry (known (rest .before)))
-      (c .before .before .source .ensures) (c .before .if2 .left) (c .ask-action .ensures)
+      let rest = c .before .before .before in
+      state-own (rest .before .if1 .left) (rest .ask-state .ensures) (c .before .before .source .ensures)
+      (c .before .if2 .left) (c .ask-action .ensures)
 
   state-returns-3 : ask-state-lts.Need-returns-3 state-calls ask-state-at ask-state.Post
   state-returns-3 c = own (c .before) (max-eq-right (le-of-lt (c .if3 .taken)))
@@ -193,12 +171,10 @@ pub +ask-action+ask-state-spec : {M : Type 1} → statement M
     ask-action.Post
     (action-first-instant-requires n)
     (action-returns n)
-    (action-mul-at n)
-    (action-add-at n)
     (action-sink-requires n)
     (action-add-ask-state n)
     (action-ask-state-requires n)
-    (action-time-requires n)
+    (action-cost-requires n)
     (action-add-result n)
     (action-returns-2 n))
     λ n. ask-state-lts.spec
@@ -208,8 +184,6 @@ pub +ask-action+ask-state-spec : {M : Type 1} → statement M
     (state-returns n)
     (state-sub-k n)
     (state-ask-state-requires n)
-    (state-mul-source n)
-    (state-add-source n)
     (state-source-requires n)
     (state-returns-2 n)
     (state-ask-action-requires n)

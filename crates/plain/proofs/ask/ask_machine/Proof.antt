@@ -3,8 +3,8 @@ use mathlib.Core.Path.{sym, _∙_}
 use mathlib.Core.Logic.{⊎-elim}
 use native.Mathlib.Omega.{arith}
 use native.Mathlib.Nat.{max-eq-left, max-eq-right, le-of-lt}
-use Rattle.walk.specs.Inside.{machineAt}
-use Rattle.walk.proofs.Read.{entry-sizes}
+use Rattle.sheet.specs.Inside.{machineAt}
+use Rattle.sheet.proofs.Entries.{entry-sizes}
 use Rattle.plain.proofs.Asking.{StatesAsked, asked-none, asked-more, asked-all}
 use Rattle.plain.proofs.ask.ask_machine.Statement.{statement}
 use Rattle.plain.proofs.ask.ask_machine.Tie as tie
@@ -21,7 +21,7 @@ loop-holds c = asked-none
 ask-state-requires : tie.Need-ask-state-requires Inv-loop μ-loop
 ask-state-requires c κs =
     let (entry, span) = c .before .before .before .before .pre in
-    (entry, span, omega (arith, entry .actions))
+    (entry, span, omega (arith, entry .read .actions))
 
 add-state : tie.Need-add-state Inv-loop μ-loop
 add-state c = omega arith
@@ -34,7 +34,7 @@ loop-again c =
     let turn = c .before .before in
     let entry = turn .before .before .before .before .pre .0 in
     let more =
-    asked-more (turn .before .before .loop .inv) (omega (arith, entry .states, turn .if1 .taken)) (entry .actions)
+    asked-more (turn .before .before .loop .inv) (omega (arith, entry .read .states, turn .if1 .taken)) (entry .read .actions)
     (c .before .ask-state .ensures) in
     ⊎-elim (λ w. more (max-eq-right (le-of-lt (w .0 .taken)) ∙ sym (w .1)))
     (λ w. more (max-eq-left (w .0 .left) ∙ sym (w .1))) (c .if2 .came)
@@ -42,7 +42,7 @@ loop-again c =
 returns : tie.Need-returns Inv-loop μ-loop
 returns c =
     let entry = c .before .before .before .before .pre .0 in
-    asked-all (entry-sizes entry) (c .before .before .loop .inv) (omega (arith, entry .states, c .if1 .left))
+    asked-all (entry-sizes entry) (c .before .before .loop .inv) (omega (arith, entry .read .states, c .if1 .left))
 
 pub ask-machine-spec : {M : Type 1} → statement M
 ask-machine-spec =

@@ -1,7 +1,7 @@
 use Prim.Native.Nat.{_-_}
 use mathlib.Core.Path.{sym, _∙_}
 use native.Mathlib.Omega.{arith}
-use Rattle.walk.specs.Inside.{machineAt}
+use Rattle.sheet.specs.Inside.{machineAt}
 use Rattle.plain.proofs.Found.{Passed, passed-none, passed-more, passed-first}
 use Rattle.plain.proofs.instant.first_instant.Statement.{statement}
 use Rattle.plain.proofs.instant.first_instant.Tie as tie
@@ -15,12 +15,12 @@ abbrev μ-loop : tie.MeasureT-loop
 loop-holds : tie.Need-loop-holds Inv-loop μ-loop
 loop-holds c = passed-none (c .before .pre .1 .forward)
 
-instant-at-requires : tie.Need-instant-at-requires Inv-loop μ-loop
-instant-at-requires c κs = let (entry, span, known) = c .before .before .before .pre in (entry, known)
+has-instant-requires : tie.Need-has-instant-requires Inv-loop μ-loop
+has-instant-requires c κs = let (entry, span, known) = c .before .before .before .pre in (entry, known)
 
 returns : tie.Need-returns Inv-loop μ-loop
 returns c =
-    let found = sym (c .before .instant-at .ensures) ∙ c .if1 .taken in
+    let found = sym (c .before .has-instant .ensures) ∙ c .if1 .taken in
     passed-first (c .before .before .before .loop .inv) (λ l. found)
 
 add-u : tie.Need-add-u Inv-loop μ-loop
@@ -32,7 +32,7 @@ loop-less c = omega arith
 loop-again : tie.Need-loop-again Inv-loop μ-loop
 loop-again c =
     let turn = c .before .before in
-    passed-more (turn .before .loop .inv) (turn .loop-test .taken) (sym (c .before .instant-at .ensures) ∙ c .if1 .left)
+    passed-more (turn .before .loop .inv) (turn .loop-test .taken) (sym (c .before .has-instant .ensures) ∙ c .if1 .left)
 
 returns-2 : tie.Need-returns-2 Inv-loop μ-loop
 returns-2 c = passed-first (c .before .loop .inv) (λ l. absurd (omega arith))
@@ -44,7 +44,7 @@ first-instant-spec =
     Inv-loop
     μ-loop
     loop-holds
-    instant-at-requires
+    has-instant-requires
     returns
     add-u
     loop-less

@@ -5,7 +5,7 @@ use borrow.Author.Count.{below-more}
 use mathlib.Core.Bool.{false}
 use mathlib.Core.Option.{none, some}
 use Rattle.model.specs.Reckon.{instant?}
-use Rattle.walk.specs.Inside.{machineAt}
+use Rattle.sheet.specs.Inside.{machineAt}
 use Rattle.plain.proofs.Found.{hasInstant-by}
 use Rattle.plain.proofs.instant.has_instant.Statement.{statement}
 use Rattle.plain.proofs.instant.has_instant.Tie as tie
@@ -19,17 +19,17 @@ abbrev μ-loop : tie.MeasureT-loop
 loop-holds : tie.Need-loop-holds Inv-loop μ-loop
 loop-holds c = λ j l. absurd (omega arith)
 
-instant-at-requires : tie.Need-instant-at-requires Inv-loop μ-loop
-instant-at-requires c κs =
+has-instant-requires : tie.Need-has-instant-requires Inv-loop μ-loop
+has-instant-requires c κs =
     let entry = c .before .before .before .before .pre in
-    (entry, omega (arith, entry .actions, c .if1 .taken))
+    (entry, omega (arith, entry .read .actions, c .if1 .taken))
 
 returns : tie.Need-returns Inv-loop μ-loop
 returns c =
     let turn = c .before .before in
     sym (hasInstant-by _ _ (some (turn .before .before .loop .k)) (
-      omega (arith, turn .before .before .before .before .pre .actions, turn .if1 .taken),
-      sym (c .before .instant-at .ensures) ∙ c .if2 .taken,
+      omega (arith, turn .before .before .before .before .pre .read .actions, turn .if1 .taken),
+      sym (c .before .has-instant .ensures) ∙ c .if2 .taken,
       turn .before .before .loop .inv,
     ))
 
@@ -42,12 +42,12 @@ loop-less c = omega arith
 loop-again : tie.Need-loop-again Inv-loop μ-loop
 loop-again c =
     let turn = c .before .before .before .before in
-    below-more _ _ (turn .loop .inv) (sym (c .before .instant-at .ensures) ∙ c .if2 .left)
+    below-more _ _ (turn .loop .inv) (sym (c .before .has-instant .ensures) ∙ c .if2 .left)
 
 returns-2 : tie.Need-returns-2 Inv-loop μ-loop
 returns-2 c =
     let entry = c .before .before .before .before .pre in
-    sym (hasInstant-by _ _ none (λ j l. c .before .before .loop .inv j (omega (arith, entry .actions, c .if1 .left))))
+    sym (hasInstant-by _ _ none (λ j l. c .before .before .loop .inv j (omega (arith, entry .read .actions, c .if1 .left))))
 
 pub has-instant-spec : {M : Type 1} → statement M
 has-instant-spec =
@@ -56,7 +56,7 @@ has-instant-spec =
     Inv-loop
     μ-loop
     loop-holds
-    instant-at-requires
+    has-instant-requires
     returns
     add-k
     loop-less

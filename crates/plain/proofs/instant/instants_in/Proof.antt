@@ -2,7 +2,7 @@ use mathlib.Core.Logic.{⊎-elim}
 use mathlib.Core.Path.{sym, _∙_}
 use native.Mathlib.Omega.{arith}
 use Prim.Native.Nat.{_-_}
-use Rattle.walk.specs.Inside.{machineAt}
+use Rattle.sheet.specs.Inside.{machineAt}
 use Rattle.plain.proofs.Found.{Counted, counted-none, counted-one, counted-same, counted-all}
 use Rattle.plain.proofs.instant.instants_in.Statement.{statement}
 use Rattle.plain.proofs.instant.instants_in.Tie as tie
