@@ -2,22 +2,22 @@
 -- Assumes nothing.
 use Prim.Native.Nat.{ℕ, suc, _+_, _/_, _%_, _≤_, _<_}
 use mathlib.Core.Path.{_≡_, refl, sym, _∙_, ap, ap₂}
-use mathlib.Core.Bool.{Bool, true, false, _&&_, and-false}
+use mathlib.Core.Bool.{Bool, true, false, _&&_, and-true, and-false}
 use mathlib.Core.List.{List}
 use mathlib.Core.Logic.{⊎-elim}
 use native.Mathlib.Omega.{arith}
 use native.Mathlib.Nat.{eq-or-lt-of-le}
 use native.Mathlib.Decide.{decLt}
 use lib.Dec.{eqb}
-use borrow.Author.Tests.{lt-ltb}
-use Rattle.model.specs.Machine.{Action, Machine, count, actionOf}
+use Rattle.model.specs.declared.Way.the-variants.{Back}
+use Rattle.model.specs.Machine.{Machine, count, actionOf}
 use Rattle.model.specs.Legal.{asked}
-use Rattle.model.specs.Sizes.{MachineSizes}
 use Rattle.model.specs.Reckon.{instant?, begins?, pair, after, best}
-use Rattle.model.specs.Inside.{figure, IsBack}
+use Rattle.model.specs.Inside.{Closed, may?, figure, IsBack}
 use Rattle.model.specs.Critical.{makes?}
-use Rattle.model.proofs.Names.{cost-is, begins?-is}
-use Rattle.walk.specs.Inside.{Marks}
+use Rattle.model.proofs.Tests.{true-or-false, both-true}
+use Rattle.model.proofs.Names.{closed-inside, closed-onward}
+use Rattle.walk.specs.Inside.{Marks, brought}
 use Rattle.walk.proofs.Mask.{Rest, rest-begin, rest-one, rest-other, rest-next}
 use Rattle.walk.proofs.Digits.{left-none}
 use Rattle.critical.specs.declared.forward.Leaves.{Leaves}
@@ -47,16 +47,13 @@ module _ {m : Machine} {mask : ℕ} {leaves : Leaves} {left : ℕ} {later : List
     pub seeking-unmarked : (rest % 2 ≡ 1 → ⊥) → Seeking m mask leaves left later (j + 1) (rest / 2)
     seeking-unmarked other = seeking-next (λ t g. rw (rest-other (h .rest-is) g known other) refl)
 
-    pub seeking-other : {a : Action} → a ≡ actionOf m j → makesUp leaves left later a ≡ false
-        → Seeking m mask leaves left later (j + 1) (rest / 2)
-    seeking-other e fails =
-        seeking-next (λ t g. ap (λ x. instant? m j t && x) (rw e at fails) ∙ and-false (instant? m j t))
+    pub seeking-other : makesUp m leaves left later j ≡ false → Seeking m mask leaves left later (j + 1) (rest / 2)
+    seeking-other fails = seeking-next (λ t g. ap (λ x. may? m t j && x) fails ∙ and-false (may? m t j))
 
-    pub seeking-found : {a : Action} → rest % 2 ≡ 1 → a ≡ actionOf m j → makesUp leaves left later a ≡ true
-        → FirstMaking m mask leaves left later j
-    seeking-found one e makes =
+    pub seeking-found : rest % 2 ≡ 1 → makesUp m leaves left later j ≡ true → FirstMaking m mask leaves left later j
+    seeking-found one makes =
         record {
-          found = λ t g l. ap₂ _&&_ (rest-one (h .rest-is) g known one) (rw e at makes);
+          found = λ t g l. ap₂ _&&_ (rest-one (h .rest-is) g known one) makes;
           before = λ t g k l. h .none t g k;
         }
 
@@ -77,24 +74,40 @@ abbrev pub allows : Machine → Leaves → ℕ → Bool
 allows m Any = begins? m
 allows m (State q) = eqb q
 
-allows-is : (m : Machine) (leaves : Leaves) (q : ℕ) → q < m .states → mayLeave leaves q ≡ allows m leaves q
-allows-is m Any q l = sym (begins?-is m q ∙ lt-ltb q (m .states) l)
-allows-is m (State p) q l = refl
+-- in the figures of the table the search is that of the definition, where the next pair leaves a state in which a
+-- sequence may begin
+module _ {m : Machine} (closed : Closed m) {t n left : ℕ} (leaves : Leaves) {later : List ℕ}
+    (begun : (q : ℕ) → allows m leaves q ≡ true → begins? m q ≡ true) (back : IsBack m (asked m) (suc t) n later)
+    (goal : left ≡ best m (asked m) t (suc n) (allows m leaves)) (j : ℕ) (l : j < count m) where
+  source : ℕ
+  source = actionOf m j .source
 
-regroup : (i a e : Bool) → (i && (a && e)) ≡ ((a && i) && e)
-regroup true true e = refl
-regroup true false e = refl
-regroup false true e = refl
-regroup false false e = refl
+  follows : ℕ
+  follows = best m (asked m) (suc t) n (after m j)
 
--- in the figures of the table the search is that of the definition
-pub makes-is : {m : Machine} (sizes : MachineSizes m) {t n left : ℕ} (leaves : Leaves) {later : List ℕ}
-    → IsBack m (asked m) (suc t) n later → left ≡ best m (asked m) t (suc n) (allows m leaves) → (j : ℕ) → j < count m
-    → makesAt m t leaves left later j ≡ makes? m (asked m) t n (allows m leaves) j
-makes-is {m} sizes {t} {n} {left} leaves {later} back goal j l =
-    let a = actionOf m j in
-    let figures : figure later (a .sink) + a .time ≡ asked m (pair j t) + best m (asked m) (suc t) n (after m j) =
-    omega (arith, back .at (a .sink) (sizes .action j l .sink), cost-is m j) in
-    regroup (instant? m j t) (mayLeave leaves (a .source)) _
-    ∙ ap₂ (λ (x y : Bool). (x && instant? m j t) && y) (allows-is m leaves (a .source) (sizes .action j l .source))
-    (ap₂ eqb figures goal)
+  allowed : (who : Leaves) → begins? m source ≡ true → mayLeave who source ≡ allows m who source
+  unfolding source
+  allowed Any b = sym b
+  allowed (State p) b = refl
+
+  makes-now : may? m t j ≡ true → makesAt m t leaves left later j ≡ makes? m (asked m) t n (allows m leaves) j
+  unfolding source follows
+  makes-now o =
+      let (b, i) = both-true (begins? m source) _ o in
+      let onward = closed-onward closed j l b in
+      let sink : figure later (actionOf m j .sink) ≡ follows =
+      rw onward at (back .at (actionOf m j .sink) (closed-inside closed _ onward)) in
+      ap (λ x. x && makesUp m leaves left later j) o
+      ∙ ap₂ _&&_ (allowed leaves b ∙ sym (ap (λ x. allows m leaves source && x) i ∙ and-true (allows m leaves source)))
+      (ap₂ eqb (let z : brought Back m j later ≡ asked m (pair j t) + follows = omega (arith, sink) in z) goal)
+
+  makes-not : may? m t j ≡ false → makesAt m t leaves left later j ≡ makes? m (asked m) t n (allows m leaves) j
+  unfolding source follows
+  makes-not o =
+      ap (λ x. x && makesUp m leaves left later j) o
+      ∙ sym (ap (λ x. x && eqb (asked m (pair j t) + follows) (best m (asked m) t (suc n) (allows m leaves)))
+      (⊎-elim (λ a. ap (λ x. x && instant? m j t) (a ∙ sym (begun source a)) ∙ o) (λ a. ap (λ x. x && instant? m j t) a)
+      (true-or-false (allows m leaves source))))
+
+  pub makes-is : makesAt m t leaves left later j ≡ makes? m (asked m) t n (allows m leaves) j
+  makes-is = ⊎-elim makes-now makes-not (true-or-false (may? m t j))

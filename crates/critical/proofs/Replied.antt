@@ -11,7 +11,7 @@ use borrow.Author.Tests.{le-leb, lt-leb}
 use Rattle.model.specs.Machine.{Machine, count, machineOf}
 use Rattle.model.specs.Legal.{cost}
 use Rattle.model.specs.Critical.{IsCritical, critical}
-use Rattle.model.proofs.Names.{cost-is}
+use Rattle.model.proofs.Accepted.{sizes-cost}
 use Rattle.model.proofs.Critical.{critical-is}
 use Rattle.reply.specs.declared.Refusal.{Refusal}
 use Rattle.reply.specs.declared.Answer.{Answer}
@@ -21,12 +21,13 @@ use Rattle.reply.specs.Lent.{inFront, unlessRefused}
 use Rattle.reply.specs.Answer.{paper}
 use Rattle.reply.proofs.Refusals.{orElse-found, orElse-clear, otherwise-refused, otherwise-answered}
 use Rattle.reply.proofs.Unique.{answer-unique}
+use Rattle.sheet.specs.declared.Entry.{Entry}
 use Rattle.sheet.specs.Format.{decode}
+use Rattle.sheet.specs.Inside.{machineAt}
+use Rattle.sheet.proofs.Accepted.{machine-sizes}
 use Rattle.window.specs.Window.{questionRefusal}
 use Rattle.window.specs.Inside.{Proper}
 use Rattle.window.proofs.Asked.{proper}
-use Rattle.walk.specs.declared.Entry.{Entry}
-use Rattle.walk.specs.Inside.{machineAt}
 use Rattle.critical.specs.Critical.{sequenceOf, wordsOf, criticalRefusal, criticalReply, criticalWords}
 use Rattle.critical.specs.Critical.{pairsIn, HoldsCritical}
 use Rattle.critical.specs.Inside.{Holds}
@@ -47,18 +48,16 @@ module _ (b : List ℕ) (i s f lent : ℕ) where
     unfolding criticalRefusal
     refusal-none l = orElse-clear _ kept ∙ ap (λ t. unless t (refusal 12 0 0)) (le-leb _ lent l)
 
--- the sequence of a proper question is critical: execution times are at least 1
+-- the sequence of a proper question is critical: a cost is at least 1
 sequence-is : (b : List ℕ) (i s f : ℕ) → Proper b i s f → IsCritical (machineOf (decode b) i) s f (sequenceOf b i s f)
 unfolding sequenceOf
-sequence-is b i s f p = critical-is m positive s (f - s) f (omega (arith, p .forward))
+sequence-is b i s f p = critical-is m positive s (f - s) f (omega (arith, p .window .forward))
   where
     m : Machine
     m = machineOf (decode b) i
 
     positive : (k : ℕ) → k < count m → 0 < cost m k
-    positive k l =
-        let known = p .accepted .sizes .machine i (omega (arith, p .accepted .machines, p .known)) in
-        rw (cost-is m k) (known .action k l .time .0)
+    positive k l = sizes-cost m (machine-sizes (p .accepted) i (p .known)) k l .0
 
 -- the machine that an entry is of, and the window's ticks
 pub holds-sequence : (b : List ℕ) (e : Entry) (s f : ℕ) {i n number : ℕ} {words : List ℕ} → e .machine ≡ i → f - s ≡ n

@@ -2,25 +2,24 @@
 -- Assumes nothing.
 use Prim.Native.Nat.{ℕ, _+_, _-_, _*_, _≤_, _<_}
 use mathlib.Core.Path.{_≡_, refl, _∙_, ap, subst}
-use mathlib.Core.Bool.{cond}
 use mathlib.Core.List.{List}
 use mathlib.Core.Logic.{⊎-elim}
 use native.Mathlib.Omega.{arith}
 use native.Mathlib.Nat.{eq-or-lt-of-le}
 use lib.ListN.{length, take, drop, replicate, getD-replicate, length-drop, length-append, List·getD-append}
 use lib.Seq.{drop-append-add, drop-at, drop-drop, length-take-le, getD-take}
-use borrow.Author.Tests.{lt-ltb}
+use Rattle.model.specs.declared.Way.the-variants.{Back}
+use Rattle.model.specs.Limits.{longestWindow}
 use Rattle.model.specs.Machine.{Machine}
 use Rattle.model.specs.Legal.{asked}
 use Rattle.model.specs.Sizes.{MachineSizes}
-use Rattle.model.specs.Reckon.{begins?, most, request}
-use Rattle.model.specs.Inside.{figure, IsBack}
-use Rattle.model.proofs.Most.{most-cong}
-use Rattle.model.proofs.Names.{begins?-is}
-use Rattle.model.proofs.Accepted.{sizes-closed}
-use Rattle.model.proofs.Back.{back-start, back-earlier, back-request}
-use Rattle.walk.specs.Inside.{Marks, AllMarked, WindowMarked}
-use Rattle.critical.specs.Inside.{laid, Table, Filled, Earlier}
+use Rattle.model.specs.Reckon.{most, request}
+use Rattle.model.specs.Inside.{largestCost, figure, IsBack}
+use Rattle.model.proofs.Accepted.{sizes-cost, sizes-closed}
+use Rattle.model.proofs.Back.{back-start, back-earlier, back-limit, back-request}
+use Rattle.sheet.specs.declared.Entry.{Entry}
+use Rattle.walk.specs.Inside.{Marks, AllMarked, WindowMarked, Ready, Ticked}
+use Rattle.critical.specs.Inside.{Marked, tableSize, laid, Table, Filled}
 
 -- a row laid over the table at word a stands there, and the table is as it was beyond
 module _ (a : ℕ) (row table : List ℕ) (long : length row ≡ 16) (room : a + 16 ≤ length table) where
@@ -46,7 +45,7 @@ module _ (a : ℕ) (row table : List ℕ) (long : length row ≡ 16) (room : a +
 
 module _ {m : Machine} (sizes : MachineSizes m) {s n : ℕ} where
   -- a row laid at its place
-  table-more : {k : ℕ} (row table : List ℕ) → length table ≡ 32784 → length row ≡ 16 → n ≤ 2048 → k ≤ n
+  table-more : {k : ℕ} (row table : List ℕ) → length table ≡ tableSize → length row ≡ 16 → n ≤ longestWindow → k ≤ n
       → IsBack m (asked m) (s + k) (n - k) row
       → ((j : ℕ) → k < j → j ≤ n → IsBack m (asked m) (s + j) (n - j) (drop (16 * j) table))
       → Table m s n k (laid (16 * k) row table)
@@ -68,8 +67,8 @@ module _ {m : Machine} (sizes : MachineSizes m) {s n : ℕ} where
           }
 
   -- the row after the last tick has zeros
-  pub filled-begin : {row : List ℕ} (table : List ℕ) {new : List ℕ} → row ≡ replicate 16 0 → length table ≡ 32784
-      → n ≤ 2048 → new ≡ laid (16 * n) row table → Filled m s n n row new
+  pub filled-begin : {row : List ℕ} (table : List ℕ) {new : List ℕ} → row ≡ replicate 16 0 → length table ≡ tableSize
+      → n ≤ longestWindow → new ≡ laid (16 * n) row table → Filled m s n n row new
   filled-begin {row} table e room short f =
       let zeros : IsBack m (asked m) (s + n) (n - n) row =
       rw (let z : n - n ≡ 0 = omega arith in z, e)
@@ -82,15 +81,15 @@ module _ {m : Machine} (sizes : MachineSizes m) {s n : ℕ} where
         rows = rw f (table-more row table room (ap length e) short (omega arith) zeros (λ j a b. absurd (omega arith)));
       }
 
-  pub filled-more : {k mask : ℕ} {row earlier table new : List ℕ} → Filled m s n k row table → n ≤ 2048 → 0 < k
-      → Marks m (s + (k - 1)) mask → Earlier m mask row earlier → new ≡ laid (16 * (k - 1)) earlier table
+  pub filled-more : {k mask : ℕ} {row earlier table new : List ℕ} → Filled m s n k row table → n ≤ longestWindow → 0 < k
+      → Marks m (s + (k - 1)) mask → Ticked Back m mask row earlier → new ≡ laid (16 * (k - 1)) earlier table
       → Filled m s n (k - 1) earlier new
   filled-more {k} {row = row} {earlier = earlier} {table = table} h short more g e f =
       let next : s + k ≡ s + (k - 1) + 1 = omega arith in
       let left : n - k + 1 ≡ n - (k - 1) = omega (arith, h .early) in
       let now : IsBack m (asked m) (s + (k - 1)) (n - (k - 1)) earlier =
-      rw left at (back-earlier m (asked m) (λ j l. sizes .action j l .sink) (s + (k - 1)) (n - k) row earlier
-      (rw next at (h .last)) (e .at _ g)) in
+      rw left at (back-earlier m (asked m) (sizes-closed m sizes) (s + (k - 1)) (n - k) row earlier
+      (rw next at (h .last)) (e .moved _ g)) in
       record {
         early = omega (arith, h .early);
         long = e .long;
@@ -112,11 +111,23 @@ filled-top {m} {s} {n} {row = row} sizes h e f =
     let all : n - 0 ≡ n = omega arith in
     f
     ∙ ap (λ k. most k (figure row)) e
-    ∙ most-cong (m .states) (figure row) (λ q. cond (begins? m q) (figure row q) 0) (λ q l.
-    rw (begins?-is m q ∙ lt-ltb q (m .states) l) refl)
     ∙ back-request m (sizes-closed m sizes) s n row (rw (start, all) at (h .last))
 
--- the masks of a window without its end
+-- figures of at most the longest window are small
+pub back-ready : {m : Machine} {t n u mask : ℕ} {row : List ℕ} → MachineSizes m → IsBack m (asked m) t n row
+    → n ≤ longestWindow → Marks m u mask → Ready m mask row
+back-ready {m} {t} {n} {u} {row = row} sizes h l g =
+    record {
+      tick = u;
+      marks = g;
+      small = λ q b. omega (arith, back-limit m t n row h largestCost (λ k c. sizes-cost m sizes k c .1) q b);
+    }
+
+-- the masks of a window, which is in range, and those without its end
+pub marked-short : {b : List ℕ} {e : Entry} {s : ℕ} {masks : List ℕ} → Marked b e s masks
+    → length masks ≤ longestWindow
+marked-short h = omega (arith, h .window .short)
+
 pub window-marked : {m : Machine} {s n : ℕ} {masks : List ℕ} → WindowMarked m s n masks → n ≤ length masks
     → AllMarked m s (take n masks)
 window-marked {m} {s} {n} {masks} h l =

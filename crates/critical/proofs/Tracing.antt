@@ -8,20 +8,20 @@ use native.Mathlib.Omega.{arith}
 use lib.ListN.{length, getD, take, drop, set, length-set, length-drop}
 use lib.Seq.{length-take-le, take-all}
 use borrow.Author.Tests.{eqb-true}
+use Rattle.model.specs.Limits.{longestWindow}
 use Rattle.model.specs.Machine.{Machine, count, actionOf}
-use Rattle.model.specs.Legal.{asked}
-use Rattle.model.specs.Sizes.{MachineSizes}
-use Rattle.model.specs.Reckon.{pair, open?, after, best, request}
-use Rattle.model.specs.Inside.{IsBack}
+use Rattle.model.specs.Legal.{cost, asked}
+use Rattle.model.specs.Reckon.{begins?, pair, open?, after, best, request}
+use Rattle.model.specs.Inside.{Closed, may?, IsBack}
 use Rattle.model.specs.Critical.{makes?, firstBest, critical}
 use Rattle.model.proofs.Tests.{both-true}
-use Rattle.model.proofs.Names.{cost-is}
+use Rattle.model.proofs.Names.{closed-onward}
 use Rattle.model.proofs.Critical.{best-waits, firstBest-waits, firstBest-takes}
 use Rattle.walk.specs.Inside.{Marks, AllMarked}
 use Rattle.critical.specs.declared.forward.Leaves.{Leaves}
 use Rattle.critical.specs.declared.forward.Leaves.the-variants.{Any, State}
 use Rattle.critical.specs.Critical.{wordsOf}
-use Rattle.critical.specs.Inside.{Holds, Table, makesAt, FirstMaking}
+use Rattle.critical.specs.Inside.{pairsSize, Holds, Table, makesAt, FirstMaking}
 use Rattle.critical.proofs.Words.{words-length, pair-written}
 use Rattle.critical.proofs.Making.{allows, makes-is}
 
@@ -33,11 +33,12 @@ onward m t n leaves = wordsOf (firstBest m (asked m) t n (allows m leaves))
 pub record Tracing (m : Machine) (s n k : ℕ) (leaves : Leaves) (left number : ℕ) (pairs : List ℕ) : Type 0 where
   pub early : k ≤ n
   pub few : number ≤ k
-  pub long : length pairs ≡ 4096
+  pub long : length pairs ≡ pairsSize
+  pub begun : (q : ℕ) → allows m leaves q ≡ true → begins? m q ≡ true
   pub goal : left ≡ best m (asked m) (s + k) (n - k) (allows m leaves)
   pub words : take (2 * number) pairs ++ onward m (s + k) (n - k) leaves ≡ wordsOf (critical m s n)
 
-pub tracing-begin : {m : Machine} {s n bound : ℕ} {pairs : List ℕ} → length pairs ≡ 4096 → bound ≡ request m s n
+pub tracing-begin : {m : Machine} {s n bound : ℕ} {pairs : List ℕ} → length pairs ≡ pairsSize → bound ≡ request m s n
     → Tracing m s n 0 Any bound 0 pairs
 unfolding critical request
 tracing-begin {s = s} {n = n} long e =
@@ -47,6 +48,7 @@ tracing-begin {s = s} {n = n} long e =
       early = omega arith;
       few = omega arith;
       long = long;
+      begun = λ q b. b;
       goal = rw (start, all) e;
       words = rw (start, all) refl;
     }
@@ -59,7 +61,7 @@ pub record Tick (m : Machine) (s n k mask : ℕ) (later : List ℕ) : Type 0 whe
   pub long : 16 ≤ length later
 
 pub tick-read : {m : Machine} {s k : ℕ} {masks table : List ℕ} → AllMarked m s masks → Table m s (length masks) 0 table
-    → k < length masks → length masks ≤ 2048
+    → k < length masks → length masks ≤ longestWindow
     → Tick m s (length masks) k (getD masks k 0) (take (length table - 16 * (k + 1)) (drop (16 * (k + 1)) table))
 tick-read {k = k} {table = table} marked rows l short =
     let all = take-all (length table - 16 * (k + 1)) (drop (16 * (k + 1)) table) (simp length-drop (omega arith)) in
@@ -72,7 +74,7 @@ tick-read {k = k} {table = table} marked rows l short =
     })
 
 -- one tick
-module _ {m : Machine} (sizes : MachineSizes m) {s n k mask left number j : ℕ} {leaves : Leaves} {pairs later : List ℕ}
+module _ {m : Machine} (closed : Closed m) {s n k mask left number j : ℕ} {leaves : Leaves} {pairs later : List ℕ}
     (h : Tracing m s n k leaves left number pairs) (tick : Tick m s n k mask later)
     (first : FirstMaking m mask leaves left later j) where
   ticks : n - k ≡ suc (n - (k + 1))
@@ -89,7 +91,7 @@ module _ {m : Machine} (sizes : MachineSizes m) {s n k mask left number j : ℕ}
 
   makes : (i : ℕ) → i < count m
       → makesAt m (s + k) leaves left later i ≡ makes? m (asked m) (s + k) (n - (k + 1)) (allows m leaves) i
-  makes = makes-is sizes leaves (rw next at (tick .figures)) goal-is
+  makes = makes-is closed leaves (h .begun) (rw next at (tick .figures)) goal-is
 
   before : (i : ℕ) → i < count m → i < j → makes? m (asked m) (s + k) (n - (k + 1)) (allows m leaves) i ≡ false
   before i l b = sym (makes i l) ∙ first .before (s + k) (tick .marks) i l b
@@ -103,6 +105,7 @@ module _ {m : Machine} (sizes : MachineSizes m) {s n k mask left number j : ℕ}
         early = omega (arith, tick .more);
         few = omega (arith, h .few);
         long = h .long;
+        begun = h .begun;
         goal = rw next (goal-is ∙ best-waits m (asked m) (s + k) (n - (k + 1)) (allows m leaves) none);
         words =
             rw next
@@ -111,30 +114,36 @@ module _ {m : Machine} (sizes : MachineSizes m) {s n k mask left number j : ℕ}
             ∙ words-are);
       }
 
-  module _ (known : j < count m) {time sink : ℕ} (lasts : time ≡ actionOf m j .time)
-      (leads : sink ≡ actionOf m j .sink) where
+  module _ (known : j < count m) {own sink : ℕ} (costs : own ≡ cost m j) (leads : sink ≡ actionOf m j .sink) where
     made : makes? m (asked m) (s + k) (n - (k + 1)) (allows m leaves) j ≡ true
     made = sym (makes j known) ∙ first .found (s + k) (tick .marks) known
 
-    -- its time is a part of what is left, and the rest is the best that follows
-    parts : left ≡ time + best m (asked m) (suc (s + k)) (n - (k + 1)) (after m j)
+    -- its cost is a part of what is left, and the rest is the best that follows
+    parts : left ≡ own + best m (asked m) (suc (s + k)) (n - (k + 1)) (after m j)
     parts =
         let up : asked m (pair j (s + k)) + best m (asked m) (suc (s + k)) (n - (k + 1)) (after m j)
         ≡ best m (asked m) (s + k) (suc (n - (k + 1))) (allows m leaves) =
         eqb-true _ _ (both-true (open? m (allows m leaves) (pair j (s + k))) _ made .1) in
-        omega (arith, goal-is, cost-is m j)
+        omega (arith, goal-is)
 
-    pub time-left : time ≤ left
-    time-left = omega (arith, parts)
+    pub cost-left : own ≤ left
+    cost-left = omega (arith, parts)
 
-    pub tracing-takes : {new : List ℕ} → new ≡ set (set pairs (2 * number) j) (2 * number + 1) (s + k) → n ≤ 2048
-        → Tracing m s n (k + 1) (State sink) (left - time) (number + 1) new
+    -- a sequence may begin in its sink
+    sink-begins : begins? m sink ≡ true
+    sink-begins =
+        let may : may? m (s + k) j ≡ true = both-true _ _ (first .found (s + k) (tick .marks) known) .0 in
+        rw leads (closed-onward closed j known (both-true (begins? m (actionOf m j .source)) _ may .0))
+
+    pub tracing-takes : {new : List ℕ} → new ≡ set (set pairs (2 * number) j) (2 * number + 1) (s + k) → n ≤ longestWindow
+        → Tracing m s n (k + 1) (State sink) (left - own) (number + 1) new
     unfolding wordsOf
     tracing-takes {new} e short =
         record {
           early = omega (arith, tick .more);
           few = omega (arith, h .few);
           long = ap length e ∙ simp length-set (h .long);
+          begun = λ q b. rw (← (eqb-true sink q b)) sink-begins;
           goal = rw (next, leads) (omega (arith, parts));
           words =
               rw (next, leads, e, pair-written pairs number j (s + k) (omega (arith, h .few, h .long, tick .more)))
@@ -146,7 +155,7 @@ module _ {m : Machine} (sizes : MachineSizes m) {s n k mask left number j : ℕ}
         }
 
 pub tracing-end : {m : Machine} {s n k left number : ℕ} {leaves : Leaves} {pairs : List ℕ}
-    → Tracing m s n k leaves left number pairs → n ≤ k → n ≤ 2048 → Holds (critical m s n) number pairs
+    → Tracing m s n k leaves left number pairs → n ≤ k → n ≤ longestWindow → Holds (critical m s n) number pairs
 unfolding firstBest wordsOf
 tracing-end {m} {s} {n} {k} {number = number} {pairs = pairs} h l short =
     let over : n - k ≡ 0 = omega arith in

@@ -3,12 +3,13 @@ ghost use mathlib.Core.Path.{_≡_};
 ghost use Prim.Native.Nat.{_+_, _*_, _≤_, _<_};
 ghost use lib.ListN.{length, set};
 ghost use Rattle.model.specs.Reckon.{request};
-ghost use Rattle.sheet.specs.Format.{actionAt};
-ghost use Rattle.walk.specs.Inside.{machineAt, IsEntry, Ready};
-ghost use Rattle.critical.specs.Inside.{Marked, markedSequence, Holds, Table};
-ghost use Rattle.critical.specs.Inside.{Leads, mayLeave, makesUp, FirstMaking};
+ghost use Rattle.sheet.specs.Inside.{machineAt, IsEntry};
+ghost use Rattle.walk.specs.Inside.{Ready, Joins};
+ghost use Rattle.critical.specs.Inside.{Marked, pairsSize, markedSequence, Holds, Table};
+ghost use Rattle.critical.specs.Inside.{mayLeave, makesUp, FirstMaking};
+use model::Way;
+use sheet::Entry;
 use sheet::read;
-use walk::Entry;
 
 // The states that the next pair may leave: any at first, and then the last pair's sink.
 pub(crate) enum Leaves {
@@ -27,7 +28,7 @@ pub(crate) fn trace(
     table: &[u32],
     pairs: &mut [u32],
 ) -> usize
-    requires { ⌜ Marked (now sheet) entry from (now masks) × (length (now pairs) ≡ 4096) ⌝ }
+    requires { ⌜ Marked (now sheet) entry from (now masks) × (length (now pairs) ≡ pairsSize) ⌝ }
     requires { ⌜ Table (machineAt (now sheet) entry) from (length (now masks)) 0 (now table) ⌝ }
     requires { ⌜ bound ≡ request (machineAt (now sheet) entry) from (length (now masks)) ⌝ }
     ensures { λ r. ⌜ Holds (markedSequence (now (sheet .entry)) entry from (now (masks .entry))) r
@@ -41,9 +42,8 @@ pub(crate) fn trace(
         let later = 16 * (k + 1);
         let j = first_making(sheet, entry, masks[k], leaves, left, &table[later..]);
         if j < entry.actions {
-            let at = entry.first + 8 * j;
-            left -= read::time(sheet, at);
-            leaves = Leaves::State(read::sink(sheet, at));
+            left -= sheet::cost(sheet, entry, j);
+            leaves = Leaves::State(read::sink(sheet, entry, j));
             put_pair(pairs, number, j as u32, from + k as u32);
             number += 1;
         }
@@ -78,7 +78,7 @@ fn first_making(
     let mut j = 0;
     while rest != 0 {
         if rest % 2 == 1 {
-            if makes_up(sheet, entry.first + 8 * j, leaves, left, later) {
+            if makes_up(sheet, entry, j, leaves, left, later) {
                 return j;
             }
         }
@@ -88,13 +88,13 @@ fn first_making(
     entry.actions
 }
 
-// Whether the action at `at` may be the next, and makes up what is left with its sink's figure.
-fn makes_up(sheet: &[u8], at: usize, leaves: Leaves, left: u32, later: &[u32]) -> bool
-    requires { ⌜ Leads (now sheet) at (now later) × (16 ≤ length (now later)) ⌝ }
-    ensures { λ r. ⌜ r ≡ makesUp leaves left (now (later .entry)) (actionAt (now (sheet .entry)) at) ⌝ }
+// Whether action j may be the next, and makes up what is left with its sink's figure.
+fn makes_up(sheet: &[u8], entry: Entry, j: usize, leaves: Leaves, left: u32, later: &[u32]) -> bool
+    requires { ⌜ Joins (now sheet) entry j (now later) ⌝ }
+    ensures { λ r. ⌜ r ≡ makesUp (machineAt (now (sheet .entry)) entry) leaves left (now (later .entry)) j ⌝ }
 {
-    let sink = read::sink(sheet, at);
-    may_leave(leaves, read::source(sheet, at)) & (later[sink] + read::time(sheet, at) == left)
+    may_leave(leaves, read::source(sheet, entry, j))
+        & (walk::brought(sheet, entry, j, Way::Back, later) == left)
 }
 
 fn may_leave(leaves: Leaves, state: usize) -> bool

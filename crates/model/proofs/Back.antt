@@ -1,6 +1,6 @@
 -- Rows from the back: for each state the largest total from it, which the critical sequence is read from.
 -- Assumes nothing.
-use Prim.Native.Nat.{ℕ, suc, _+_, _≤_, _<_, max}
+use Prim.Native.Nat.{ℕ, suc, _+_, _*_, _≤_, _<_, max}
 use mathlib.Core.Path.{_≡_, refl, sym, _∙_, ap, ap₂}
 use mathlib.Core.Bool.{Bool, true, false, cond, false≢true, and-true, and-false}
 use mathlib.Core.List.{List, [], _∷_}
@@ -13,14 +13,14 @@ use lib.Dec.{eqb}
 use borrow.Author.Tests.{eq-eqb, ne-eqb}
 use Rattle.model.specs.declared.Way.the-variants.{Back}
 use Rattle.model.specs.Machine.{Machine, count, actionOf}
-use Rattle.model.specs.Legal.{Pair, total, asked}
+use Rattle.model.specs.Legal.{Pair, total, cost, asked}
 use Rattle.model.specs.Reckon.{instant?, begins?, most, gain, best, request}
 use Rattle.model.specs.Inside.{Closed, may?, brings, moved, figure, IsMoved, IsBack}
 use Rattle.model.proofs.Tests.{true-or-false, both-true, cond-cases, cond-cong}
 use Rattle.model.proofs.Most.{most-above, most-below, most-cong}
 use Rattle.model.proofs.Names.{closed-inside, closed-onward}
 use Rattle.model.proofs.Onward.{Onward, onward-wider, onward-source}
-use Rattle.model.proofs.Best.{best-upper, best-lower}
+use Rattle.model.proofs.Best.{best-upper, best-lower, best-limit}
 use Rattle.model.proofs.Ends.{brings-cases}
 
 module _ (m : Machine) (w : Pair → ℕ) where
@@ -115,6 +115,14 @@ module _ (m : Machine) (w : Pair → ℕ) where
 
       below : best m w t n from ≤ most states from-one
       below = let (σ, r, e) = lower from in omega (arith, one σ r)
+
+-- at most c for each tick, where no action costs more than c
+pub back-limit : (m : Machine) (t n : ℕ) (row : List ℕ) → IsBack m (asked m) t n row → (c : ℕ)
+    → ((k : ℕ) → k < count m → cost m k ≤ c) → (q : ℕ) → q < m .states → figure row q ≤ n * c
+back-limit m t n row h c low q l =
+    ⊎-elim (λ z. omega (arith, h .at q l))
+    (λ (b, e). omega (arith, h .at q l, best-limit m (asked m) c (λ p. low (p .action)) t n (eqb q)))
+    (cond-cases (begins? m q) (best m (asked m) t n (eqb q)))
 
 -- the request bound is the largest figure of the row of the window's start
 pub back-request : (m : Machine) → Closed m → (s n : ℕ) (row : List ℕ) → IsBack m (asked m) s n row

@@ -1,16 +1,18 @@
 -- The refusal of a question, by what has been found out on the way, and what a proper question gives.
 -- Assumes nothing.
-use Prim.Native.Nat.{ℕ, _+_, _≤_, _<_}
+use Prim.Native.Nat.{ℕ, _+_, _-_, _≤_, _<_}
 use mathlib.Core.Path.{_≡_, _∙_, ap}
 use mathlib.Core.Bool.{true, false, _&&_}
 use mathlib.Core.List.{List}
 use mathlib.Core.Option.{none, some}
+use native.Mathlib.Omega.{arith}
 use lib.Dec.{leb}
 use borrow.Author.Tests.{leb-true, lt-ltb, le-ltb, ltb-true}
 use Rattle.reply.specs.declared.Refusal.{Refusal}
 use Rattle.reply.specs.Reply.{refusal, unless}
 use Rattle.reply.proofs.Refusals.{unless-none, orElse-none, orElse-found, orElse-clear}
 use Rattle.model.specs.Limits.{longestWindow, lastTick}
+use Rattle.model.specs.Inside.{InRange}
 use Rattle.sheet.specs.Format.{machineCount}
 use Rattle.sheet.specs.Check.{refusalOf}
 use Rattle.sheet.proofs.Tests.{both}
@@ -57,3 +59,7 @@ proper b i s f e =
             near = leb-true f lastTick near;
           };
     }
+
+-- a window by its start and its number of ticks
+pub window-ticks : {s f n : ℕ} → InRange s f → f - s ≡ n → InRange s (s + n)
+window-ticks {s} {f} {n} h e = let z : s + n ≡ f = omega (arith, h .forward) in rw z h

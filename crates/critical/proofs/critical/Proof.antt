@@ -8,6 +8,7 @@ use mathlib.Core.Path.{_≡_, refl, sym, _∙_, ap}
 use mathlib.Core.Option.{none}
 use native.Mathlib.Omega.{arith}
 use lib.Seq.{length-take-le}
+use Rattle.critical.specs.Inside.{pairsSize}
 use borrow.Author.Needs.{needs}
 use Rattle.critical.proofs.critical.Statement.{statement}
 use Rattle.critical.proofs.critical.Tie as tie
@@ -19,7 +20,7 @@ kept : (c : tie.After-enum-told)
 kept c = sym (c .before .before .question .ensures) ∙ ap found (c .enum-told .given .1)
 
 -- at most one pair for each tick is found
-few : (c : tie.After-find) → 2 * c .find .result ≤ 4096
+few : (c : tie.After-find) → 2 * c .find .result ≤ pairsSize
 few c = omega (arith, holds-room (c .find .ensures), c .find .kept .1 .1 .1 .1 .0)
 
 question-requires : tie.Need-question-requires

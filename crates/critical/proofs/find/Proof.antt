@@ -1,6 +1,6 @@
-use mathlib.Core.Path.{sym}
+use mathlib.Core.Path.{refl, sym}
 use lib.Seq.{length-take-le}
-use native.Mathlib.Omega.{arith}
+use Rattle.window.proofs.Asked.{window-ticks}
 use Rattle.critical.proofs.Replied.{holds-sequence}
 use Rattle.critical.proofs.Rows.{window-marked}
 use borrow.Author.Needs.{needs}
@@ -17,7 +17,8 @@ cast-length : tie.Need-cast-length
 cast-length c = search needs
 
 window-marks-requires : tie.Need-window-marks-requires
-window-marks-requires c κs = search needs
+window-marks-requires c κs =
+    (c .entry-of .ensures .1, window-ticks (c .before .before .before .pre .0 .window) refl)
 
 array-share-prefix-masks : tie.Need-array-share-prefix-masks
 array-share-prefix-masks c = search needs
@@ -31,8 +32,7 @@ find-marked-requires c κs =
       record {
         entry = c .before .before .before .entry-of .ensures .1;
         all = window-marked (c .before .before .window-marks .ensures) (array-share-prefix-masks (c .before .before));
-        near = omega (arith, p .forward, p .near);
-        short = omega (arith, slice-aggregate-find-marked (c .before), p .short);
+        window = window-ticks (p .window) (slice-aggregate-find-marked (c .before));
       },
       room,
     )

@@ -1,5 +1,5 @@
 use native.Mathlib.Omega.{arith}
-use Rattle.walk.proofs.Read.{entry-sizes}
+use Rattle.sheet.proofs.Entries.{entry-sizes}
 use Rattle.critical.proofs.Rows.{filled-top}
 use borrow.Author.Needs.{needs}
 use Rattle.critical.proofs.find_marked.Statement.{statement}
@@ -14,7 +14,7 @@ fill-requires c κs = search needs
 top-requires : tie.Need-top-requires
 top-requires c κs =
     let entry = c .before .before .before .before .before .before .before .pre .0 .entry in
-    omega (arith, entry .states, entry-sizes entry .states .1)
+    omega (arith, entry .read .states, entry-sizes entry .states .1)
 
 slice-aggregate-trace : tie.Need-slice-aggregate-trace
 slice-aggregate-trace c = search needs
@@ -24,7 +24,7 @@ trace-requires c κs =
     let pre = c .before .before .before .before .before .before .before .before .before .before .pre in
     let entry = pre .0 .entry in
     let filled = c .before .before .before .before .before .fill .ensures in
-    (pre, (filled .rows, filled-top (entry-sizes entry) filled (entry .states) (c .before .before .top .ensures)))
+    (pre, (filled .rows, filled-top (entry-sizes entry) filled (entry .read .states) (c .before .before .top .ensures)))
 
 same-length : tie.Need-same-length
 same-length c = search needs

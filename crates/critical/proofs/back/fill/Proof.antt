@@ -1,11 +1,10 @@
 use mathlib.Core.Path.{refl, sym, _∙_}
 use native.Mathlib.Omega.{arith}
 use lib.ListN.{length}
-use Rattle.walk.specs.Inside.{machineAt}
-use Rattle.walk.proofs.Read.{entry-sizes}
+use Rattle.sheet.specs.Inside.{machineAt}
+use Rattle.sheet.proofs.Entries.{entry-sizes}
 use Rattle.critical.specs.Inside.{Filled}
-use Rattle.critical.proofs.Raised.{back-ready}
-use Rattle.critical.proofs.Rows.{filled-begin, filled-more, filled-end}
+use Rattle.critical.proofs.Rows.{filled-begin, filled-more, filled-end, back-ready, marked-short}
 use Rattle.critical.proofs.back.fill.Statement.{statement}
 use Rattle.critical.proofs.back.fill.Tie as tie
 
@@ -20,36 +19,36 @@ abbrev start-of : tie.At-loop Inv-loop μ-loop → tie.Start Inv-loop μ-loop
 start-of c = c .before .before .before .before .before .before .before .before
 
 lay-requires : tie.Need-lay-requires Inv-loop μ-loop
-lay-requires c κs = let (marked, room) = c .before .before .before .before .pre in (marked .short, room)
+lay-requires c κs = let (marked, room) = c .before .before .before .before .pre in (marked-short marked, room)
 
 loop-holds : tie.Need-loop-holds Inv-loop μ-loop
 loop-holds c =
     let start = c .before .before .before .before .before .before .before in
     let (marked, room) = start .pre in
-    filled-begin (entry-sizes (marked .entry)) (start .args .table .now) refl room (marked .short)
+    filled-begin (entry-sizes (marked .entry)) (start .args .table .now) refl room (marked-short marked)
     (c .before .before .lay .ensures)
 
 sub-k : tie.Need-sub-k Inv-loop μ-loop
 sub-k c = omega arith
 
-mul-earlier : tie.Need-mul-earlier Inv-loop μ-loop
-mul-earlier c = omega arith
+mul-tick : tie.Need-mul-tick Inv-loop μ-loop
+mul-tick c = omega arith
 
-shared-slice-read-earlier : tie.Need-shared-slice-read-earlier Inv-loop μ-loop
-shared-slice-read-earlier c = omega (arith, c .before .before .loop .inv .early, c .before .loop-test .taken)
+shared-slice-read-tick : tie.Need-shared-slice-read-tick Inv-loop μ-loop
+shared-slice-read-tick c = omega (arith, c .before .before .loop .inv .early, c .before .loop-test .taken)
 
-earlier-requires : tie.Need-earlier-requires Inv-loop μ-loop
-earlier-requires c κs =
+tick-requires : tie.Need-tick-requires Inv-loop μ-loop
+tick-requires c κs =
     let turn = c .before .before in
     let marked = start-of turn .pre .0 in
-    let mask = marked .all .at _ (shared-slice-read-earlier c) in
-    let few = marked .short in
+    let mask = marked .all .at _ (shared-slice-read-tick c) in
+    let few = marked-short marked in
     (marked .entry, back-ready (entry-sizes (marked .entry)) (turn .loop .inv .last) (omega arith) mask)
 
 lay-requires-2 : tie.Need-lay-requires-2 Inv-loop μ-loop
 lay-requires-2 c κs =
     let turn = c .before .before .before .before in
-    (omega (arith, turn .loop .inv .early, start-of turn .pre .0 .short), turn .loop .inv .rows .long)
+    (omega (arith, turn .loop .inv .early, start-of turn .pre .0 .window .short), turn .loop .inv .rows .long)
 
 loop-less : tie.Need-loop-less Inv-loop μ-loop
 loop-less c = omega arith
@@ -59,9 +58,9 @@ loop-again c =
     let read = c .before .before .before .before .before in
     let turn = read .before .before in
     let marked = start-of turn .pre .0 in
-    let mask = marked .all .at _ (shared-slice-read-earlier read) in
-    filled-more (entry-sizes (marked .entry)) (turn .loop .inv) (marked .short) (read .before .loop-test .taken) mask
-    (c .before .before .before .before .earlier .ensures) (c .before .before .lay2 .ensures)
+    let mask = marked .all .at _ (shared-slice-read-tick read) in
+    filled-more (entry-sizes (marked .entry)) (turn .loop .inv) (marked-short marked) (read .before .loop-test .taken) mask
+    (c .before .before .before .before .tick .ensures) (c .before .before .lay2 .ensures)
 
 same-length : tie.Need-same-length Inv-loop μ-loop
 same-length c = c .before .loop .inv .rows .long ∙ sym (start-of (c .before) .pre .1)
@@ -78,9 +77,9 @@ fill-spec =
     lay-requires
     loop-holds
     sub-k
-    mul-earlier
-    shared-slice-read-earlier
-    earlier-requires
+    mul-tick
+    shared-slice-read-tick
+    tick-requires
     lay-requires-2
     loop-less
     loop-again

@@ -1,13 +1,14 @@
 use native.Mathlib.Omega.{arith}
-use mathlib.Core.Path.{sym, _∙_, ap}
+use mathlib.Core.Path.{refl, sym, _∙_}
 use mathlib.Core.Logic.{⊎-elim}
 use Prim.Native.Nat.{_+_, _-_, _*_, _≤_, _<_}
 use lib.ListN.{length, getD, take, drop}
 use Rattle.model.specs.Machine.{count}
-use Rattle.walk.specs.Inside.{machineAt}
-use Rattle.walk.proofs.Read.{entry-sizes, entry-inside, entry-action}
-use Rattle.critical.proofs.Raised.{back-ready}
-use Rattle.critical.proofs.Tracing.{Tracing, tracing-begin, tracing-waits, time-left, tracing-takes, tracing-end}
+use Rattle.sheet.specs.Inside.{machineAt}
+use Rattle.model.proofs.Accepted.{sizes-closed}
+use Rattle.sheet.proofs.Entries.{entry-sizes, has-action}
+use Rattle.critical.proofs.Rows.{back-ready, marked-short}
+use Rattle.critical.proofs.Tracing.{Tracing, tracing-begin, tracing-waits, cost-left, tracing-takes, tracing-end}
 use Rattle.critical.proofs.Tracing.{Tick, tick-read}
 use Rattle.critical.proofs.forward.trace.Statement.{statement}
 use Rattle.critical.proofs.forward.trace.Tie as tie
@@ -32,20 +33,15 @@ tick-of : (c : tie.In-loop Inv-loop μ-loop)
     (take (length (start .table .now) - later) (drop later (start .table .now)))
 tick-of c =
     let ((marked, room), (rows, bound)) = start-of (c .before) .pre in
-    tick-read (marked .all) rows (c .loop-test .taken) (marked .short)
+    tick-read (marked .all) rows (c .loop-test .taken) (marked-short marked)
 
--- the action of the next pair is one of the machine's, and stands inside the sheet
+-- the action of the next pair is one of the machine's
 known : (c : tie.Then1 Inv-loop μ-loop)
     → let start = start-of (c .before .before .before .before .before .before) .args in
     c .before .before .first-making .result < count (machineAt (start .sheet .now) (start .entry))
 known c =
     let marked = start-of (c .before .before .before .before .before .before) .pre .0 .0 in
-    omega (arith, marked .entry .actions, c .if1 .taken)
-
-inside : (c : tie.Then1 Inv-loop μ-loop)
-    → let start = start-of (c .before .before .before .before .before .before) .args in
-    start .entry .first + 8 * c .before .before .first-making .result + 8 ≤ length (start .sheet .now)
-inside c = entry-inside (start-of (c .before .before .before .before .before .before) .pre .0 .0 .entry) (known c)
+    omega (arith, marked .entry .read .actions, c .if1 .taken)
 
 loop-holds : tie.Need-loop-holds Inv-loop μ-loop
 loop-holds c =
@@ -80,33 +76,26 @@ first-making-requires : tie.Need-first-making-requires Inv-loop μ-loop
 first-making-requires c κs =
     let marked = start-of (c .before .before .before) .pre .0 .0 in
     let tick = tick-of (c .before .before) in
-    let few = marked .short in
+    let few = marked-short marked in
     ((marked .entry, back-ready (entry-sizes (marked .entry)) (tick .figures) (omega arith) (tick .marks)), tick .long)
 
-mul-at : tie.Need-mul-at Inv-loop μ-loop
-mul-at c = omega (arith, inside c)
-
-add-at : tie.Need-add-at Inv-loop μ-loop
-add-at c = omega (arith, inside (c .before))
-
-time-requires : tie.Need-time-requires Inv-loop μ-loop
-time-requires c κs = inside (c .before)
+cost-requires : tie.Need-cost-requires Inv-loop μ-loop
+cost-requires c κs = has-action (start-of (c .before .before .before .before .before .before) .pre .0 .0 .entry) (known c)
 
 sub-left : tie.Need-sub-left Inv-loop μ-loop
 sub-left c =
-    let took = c .before .before in
+    let took = c .before in
     let turn = took .before .before .before .before .before in
     let entry = start-of (turn .before) .pre .0 .0 .entry in
-    let a = entry-action entry (known took) in
-    time-left (entry-sizes entry) (turn .before .loop .inv) (tick-of turn) (took .before .before .first-making .ensures)
-    (known took) (c .time .ensures ∙ ap (λ x. x .time) a) (ap (λ x. x .sink) a)
+    cost-left (sizes-closed _ (entry-sizes entry)) (turn .before .loop .inv) (tick-of turn)
+    (took .before .before .first-making .ensures) (known took) (c .cost .ensures) refl
 
 sink-requires : tie.Need-sink-requires Inv-loop μ-loop
-sink-requires c κs = inside (c .before .before)
+sink-requires c κs = cost-requires (c .before) κs
 
 cast-put-pair : tie.Need-cast-put-pair Inv-loop μ-loop
 cast-put-pair c =
-    let took = c .before .before .before .before in
+    let took = c .before .before .before in
     let entry = start-of (took .before .before .before .before .before .before) .pre .0 .0 .entry in
     omega (arith, known took, entry-sizes entry .actions .1)
 
@@ -137,21 +126,21 @@ loop-again c =
     ⊎-elim
     (λ w.
     let took = known (record { before = c .before; if1 = w .0 }) in
-    let a = entry-action entry took in
-    rw (w .8, w .9, w .10, w .11)
-    (tracing-takes (entry-sizes entry) (turn .before .loop .inv) (tick-of turn) first took
-    (w .2 .ensures ∙ ap (λ x. x .time) a) (w .3 .ensures ∙ ap (λ x. x .sink) a) (w .5 .ensures) (marked .short)))
+    rw (w .7, w .8, w .9, w .10)
+    (tracing-takes (sizes-closed _ (entry-sizes entry)) (turn .before .loop .inv) (tick-of turn) first took
+    (w .1 .ensures) (w .2 .ensures) (w .4 .ensures) (marked-short marked)))
     (λ w.
     rw (w .1, w .2, w .3, w .4)
-    (tracing-waits (entry-sizes entry) (turn .before .loop .inv) (tick-of turn) first
-    (omega (arith, entry .actions, w .0 .left))))
+    (tracing-waits (sizes-closed _ (entry-sizes entry)) (turn .before .loop .inv) (tick-of turn) first
+    (omega (arith, entry .read .actions, w .0 .left))))
     (c .if1 .came)
 
 same-length : tie.Need-same-length Inv-loop μ-loop
 same-length c = c .before .loop .inv .long ∙ sym (start-of (c .before) .pre .0 .1)
 
 returns : tie.Need-returns Inv-loop μ-loop
-returns c = tracing-end (c .before .loop .inv) (c .loop-test .left) (start-of (c .before) .pre .0 .0 .short)
+returns c =
+    tracing-end (c .before .loop .inv) (c .loop-test .left) (marked-short (start-of (c .before) .pre .0 .0))
 
 pub trace-spec : {M : Type 1} → statement M
 trace-spec =
@@ -169,9 +158,7 @@ trace-spec =
     part-first-making-start
     part-first-making-end
     first-making-requires
-    mul-at
-    add-at
-    time-requires
+    cost-requires
     sub-left
     sink-requires
     cast-put-pair
