@@ -8,11 +8,12 @@ use native.Mathlib.Numerals.{add-one}
 use native.Mathlib.Decide.{ℕ-discrete}
 use lib.ListN.{length, getD, set, length-set}
 use lib.Seq.{getD-set-same, getD-set-other}
-use Rattle.model.specs.Machine.{count, machineOf}
-use Rattle.model.specs.Legal.{cost}
+use Rattle.model.specs.Limits.{longestWindow}
+use Rattle.model.specs.Machine.{machineOf}
 use Rattle.model.specs.Reckon.{request}
+use Rattle.model.specs.Inside.{largestCost}
 use Rattle.model.specs.Verdict.{added, requests}
-use Rattle.model.proofs.Names.{cost-is}
+use Rattle.model.proofs.Accepted.{sizes-cost}
 use Rattle.model.proofs.Bounds.{request-limit}
 use Rattle.sheet.specs.Format.{machineCount, decode}
 use Rattle.sheet.specs.Inside.{Accepted}
@@ -21,7 +22,7 @@ use Rattle.walk.specs.Inside.{Last}
 use Rattle.walk.proofs.Front.{last-none, last-instant}
 use Rattle.verdict.specs.declared.Line.{Line}
 use Rattle.verdict.specs.declared.Level.{Level}
-use Rattle.verdict.specs.Inside.{LineAt, Standing, Moved, blank, lineOf, Place, LevelAt, Ticking, LevelMoved}
+use Rattle.verdict.specs.Inside.{LineAt, Standing, Moved, blank, lineOf, stride, Place, LevelAt, Ticking, LevelMoved}
 
 pub record HalfAt (b : List ℕ) (i s n j : ℕ) (lines : List Line) : Type 0 where
   pub long : length lines ≡ 8
@@ -46,16 +47,18 @@ pub kept-lines : {old new : Level} {lines : List Line} → Kept old new
     → Kept old (record { lines = lines; above = new .above; own = new .own; row = new .row; mask = new .mask; last = new .last })
 kept-lines h = record { row = h .row; mask = h .mask; last = h .last }
 
--- the request of a machine, and of a few machines, over a window of at most 2,048 ticks
-pub request-small : {b : List ℕ} → Accepted b → (i s n : ℕ) → i < machineCount b → n ≤ 2048
-    → request (machineOf (decode b) i) s n ≤ 2097152
-request-small {b} a i s n l h = omega (arith, request-limit (machineOf (decode b) i) 1024 low s n)
-  where
-    low : (k : ℕ) → k < count (machineOf (decode b) i) → cost (machineOf (decode b) i) k ≤ 1024
-    low k c = rw (cost-is (machineOf (decode b) i) k) (machine-sizes a i l .action k c .time .1)
+-- the request of a machine, and of a few machines, over a window that is in range
+abbrev pub largestRequest : ℕ
+largestRequest = longestWindow * largestCost
 
-pub requests-small : {b : List ℕ} → Accepted b → (i s n : ℕ) → i ≤ machineCount b → n ≤ 2048
-    → requests (decode b) i s n ≤ i * 2097152
+pub request-small : {b : List ℕ} → Accepted b → (i s n : ℕ) → i < machineCount b → n ≤ longestWindow
+    → request (machineOf (decode b) i) s n ≤ largestRequest
+request-small {b} a i s n l h =
+    let m = machineOf (decode b) i in
+    omega (arith, request-limit m largestCost (λ k c. sizes-cost m (machine-sizes a i l) k c .1) s n)
+
+pub requests-small : {b : List ℕ} → Accepted b → (i s n : ℕ) → i ≤ machineCount b → n ≤ longestWindow
+    → requests (decode b) i s n ≤ i * largestRequest
 unfolding added
 requests-small a zero s n l h = omega arith
 requests-small a (suc i) s n l h =
@@ -80,12 +83,12 @@ module _ {b masks : List ℕ} {place i n : ℕ} {old : Level} where
     pub ticking-few : i < 8
     ticking-few = omega (arith, t .known, t .accepted .sizes .machines .1, t .accepted .machines)
 
-    pub ticking-place : (j : ℕ) → j ≤ i → 1024 * j + place < length masks
+    pub ticking-place : (j : ℕ) → j ≤ i → stride * j + place < length masks
     ticking-place j l = omega (arith, ticking-few, t .long, t .marked .inside)
 
     module _ {j : ℕ} {lines : List Line} {above : ℕ} (h : HalfMoved b masks place i n old j lines above) (l : j ≤ i) where
       -- line j stands before the tick
-      pub half-standing : Standing (machineOf (decode b) j) (getD masks (1024 * j + place) 0) (lineOf lines j)
+      pub half-standing : Standing (machineOf (decode b) j) (getD masks (stride * j + place) 0) (lineOf lines j)
       half-standing =
           record {
             start = t .start;
@@ -95,7 +98,7 @@ module _ {b masks : List ℕ} {place i n : ℕ} {old : Level} where
             stands = h .on (t .start) (t .marked) (t .stands) .stands j (omega arith) l;
           }
 
-      pub half-small : above ≤ 14680064
+      pub half-small : above ≤ 7 * largestRequest
       half-small =
           omega (
             arith,
@@ -104,11 +107,11 @@ module _ {b masks : List ℕ} {place i n : ℕ} {old : Level} where
             ticking-few,
           )
 
-      module _ {new : Line} (m : Moved (machineOf (decode b) j) (getD masks (1024 * j + place) 0) (lineOf lines j) new) where
+      module _ {new : Line} (m : Moved (machineOf (decode b) j) (getD masks (stride * j + place) 0) (lineOf lines j) new) where
         line-new : (s : ℕ) → Place b masks place (s + n) → LevelAt b i s n old → LineAt (machineOf (decode b) j) s (n + 1) new
         line-new s p g = m .on s n (p .at j (omega (arith, t .known))) (h .on s p g .stands j (omega arith) l)
 
-        pub half-top : new .top ≤ 2097152
+        pub half-top : new .top ≤ largestRequest
         half-top =
             omega (
               arith,
@@ -136,7 +139,7 @@ module _ {b masks : List ℕ} {place i n : ℕ} {old : Level} where
 
     -- when line i has moved, the tick is done; its instant, if it has one, is the last so far
     module _ {lines : List Line} {above : ℕ} (h : HalfMoved b masks place i n old i lines above) {new : Line}
-        (m : Moved (machineOf (decode b) i) (getD masks (1024 * i + place) 0) (lineOf lines i) new) where
+        (m : Moved (machineOf (decode b) i) (getD masks (stride * i + place) 0) (lineOf lines i) new) where
       ended : (s : ℕ) (level : Level) → Place b masks place (s + n) → LevelAt b i s n old → level .lines ≡ set lines i new
           → level .above ≡ above → level .own ≡ new .top
           → Last (machineOf (decode b) i) s (n + 1) (level .last) (level .mask) (level .row) → LevelAt b i s (n + 1) level
@@ -149,20 +152,20 @@ module _ {b masks : List ℕ} {place i n : ℕ} {old : Level} where
             last = last;
           }
 
-      pub half-idle : getD masks (1024 * i + place) 0 ≡ 0
+      pub half-idle : getD masks (stride * i + place) 0 ≡ 0
           → LevelMoved b masks place i n old
           (record { lines = set lines i new; above = above; own = new .top; row = old .row; mask = old .mask; last = old .last })
       half-idle e =
           record { on = λ s p g. ended s _ p g refl refl refl (last-none (g .last) (p .at i (t .known)) e) }
 
-      pub half-instant : (getD masks (1024 * i + place) 0 ≡ 0 → ⊥)
+      pub half-instant : (getD masks (stride * i + place) 0 ≡ 0 → ⊥)
           → LevelMoved b masks place i n old
           (record {
             lines = set lines i new;
             above = above;
             own = new .top;
             row = lineOf lines i .row;
-            mask = getD masks (1024 * i + place) 0;
+            mask = getD masks (stride * i + place) 0;
             last = n;
           })
       half-instant d =

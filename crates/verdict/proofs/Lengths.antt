@@ -11,6 +11,7 @@ use native.Mathlib.Nat.{mod-lt, mod-eq-of-lt, mod-add-mod, add-zero}
 use lib.Dec.{leb}
 use lib.ListN.{length, getD, replicate, length-replicate, getD-replicate}
 use borrow.Author.Tests.{le-leb, lt-leb}
+use Rattle.model.specs.Limits.{longestWindow}
 use Rattle.model.specs.Machine.{machineOf, hyperperiod}
 use Rattle.model.specs.Sizes.{MachineSizes}
 use Rattle.model.specs.Reckon.{request, demand}
@@ -28,16 +29,16 @@ use Rattle.walk.proofs.Mask.{marks-remainder}
 use Rattle.walk.proofs.Front.{row-zeros, row-ready, last-begin, last-none, last-demand}
 use Rattle.verdict.specs.declared.Line.{Line}
 use Rattle.verdict.specs.declared.Level.{Level}
-use Rattle.verdict.specs.Inside.{LineAt, lineOf, Place, LinesAt, LevelAt, Begun, Ticking, Marked}
+use Rattle.verdict.specs.Inside.{LineAt, lineOf, stride, Place, LinesAt, LevelAt, Begun, Ticking, Marked}
 use Rattle.verdict.proofs.Moving.{moved-not}
-use Rattle.verdict.proofs.Half.{request-small, requests-small}
+use Rattle.verdict.proofs.Half.{largestRequest, request-small, requests-small}
 
 -- the lengths up to n are done, and the walk has come to a place
 pub record Walked (b : List ℕ) (i s h n : ℕ) (level : Level) (room place : ℕ) : Type 0 where
   pub stands : LevelAt b i s n level
   pub roomy : room ≡ slack (decode b) i s n
   pub placed : place ≡ (s + n) % h
-  pub left : scan (decode b) i s (suc n) (2048 - n) ≡ gives (decode b) i s
+  pub left : scan (decode b) i s (suc n) (longestWindow - n) ≡ gives (decode b) i s
 
 module _ {b masks lowest : List ℕ} {h : ℕ} (marked : Marked b masks lowest h) {i : ℕ} (known : i < machineCount b) where
   sizes : MachineSizes (machineOf (decode b) i)
@@ -46,7 +47,7 @@ module _ {b masks lowest : List ℕ} {h : ℕ} (marked : Marked b masks lowest h
   pub machines-few : i < 8
   machines-few = omega (arith, known, marked .accepted .sizes .machines .1, marked .accepted .machines)
 
-  pub period-short : h ≤ 1024
+  pub period-short : h ≤ stride
   period-short = omega (arith, marked .period, marked .accepted .hyperperiod .1)
 
   period-positive : 0 < h
@@ -68,7 +69,7 @@ module _ {b masks lowest : List ℕ} {h : ℕ} (marked : Marked b masks lowest h
   mod-next t = mod-add-mod t h 1
 
   module _ {s : ℕ} where
-    pub walked-begin : {level : Level} {mask : ℕ} → s < h → Begun mask level → mask ≡ getD masks (1024 * i + s) 0
+    pub walked-begin : {level : Level} {mask : ℕ} → s < h → Begun mask level → mask ≡ getD masks (stride * i + s) 0
         → Walked b i s h 0 level 0 s
     unfolding slack added
     walked-begin {level} {mask} l begun e =
@@ -110,7 +111,7 @@ module _ {b masks lowest : List ℕ} {h : ℕ} (marked : Marked b masks lowest h
       pub walked-inside : place < h
       walked-inside = rw (w .placed) (mod-lt (s + n) period-positive)
 
-      pub walked-ticking : n < 2048 → Ticking b masks place i n level
+      pub walked-ticking : n < longestWindow → Ticking b masks place i n level
       walked-ticking l =
           record {
             accepted = marked .accepted;
@@ -135,7 +136,7 @@ module _ {b masks lowest : List ℕ} {h : ℕ} (marked : Marked b masks lowest h
           here : Place b masks place (s + n)
           here = tick-place (w .placed)
 
-          quiet : (j : ℕ) → j ≤ i → getD masks (1024 * j + place) 0 ≡ 0
+          quiet : (j : ℕ) → j ≤ i → getD masks (stride * j + place) 0 ≡ 0
           quiet j u = marked .lowered .at place walked-inside .before j (omega arith)
 
           line : (j : ℕ) → j ≤ i → LineAt (machineOf (decode b) j) s (n + 1) (lineOf (level .lines) j)
@@ -152,12 +153,12 @@ module _ {b masks lowest : List ℕ} {h : ℕ} (marked : Marked b masks lowest h
               (λ k c. request-idle k (omega arith))
 
     -- what length n + 1 says, of a level that has come to it
-    module _ {n : ℕ} {level : Level} (come : LevelAt b i s (n + 1) level) (near : n < 2048)
-        (left : scan (decode b) i s (suc n) (2048 - n) ≡ gives (decode b) i s) where
+    module _ {n : ℕ} {level : Level} (come : LevelAt b i s (n + 1) level) (near : n < longestWindow)
+        (left : scan (decode b) i s (suc n) (longestWindow - n) ≡ gives (decode b) i s) where
       at : LevelAt b i s (suc n) level
       at = rw (add-one n) at come
 
-      pub level-small : level .above + level .own ≤ 16777216
+      pub level-small : level .above + level .own ≤ 8 * largestRequest
       level-small =
           omega (
             arith,
@@ -172,12 +173,12 @@ module _ {b masks lowest : List ℕ} {h : ℕ} (marked : Marked b masks lowest h
       unfolding added
       both = ap₂ _+_ (at .above) (at .own)
 
-      here : scan (decode b) i s (suc n) (suc (2048 - suc n)) ≡ gives (decode b) i s
-      here = rw (let z : suc (2048 - suc n) ≡ 2048 - n = omega arith in z) left
+      here : scan (decode b) i s (suc n) (suc (longestWindow - suc n)) ≡ gives (decode b) i s
+      here = rw (let z : suc (longestWindow - suc n) ≡ longestWindow - n = omega arith in z) left
 
       pub length-closes : level .above + level .own ≤ n + 1 → none ≡ gives (decode b) i s
       length-closes l =
-          sym (scan-closed (decode b) i s (suc n) (2048 - suc n) (closes-at-most (decode b) i s (suc n) .1 (omega (arith, both))))
+          sym (scan-closed (decode b) i s (suc n) (longestWindow - suc n) (closes-at-most (decode b) i s (suc n) .1 (omega (arith, both))))
           ∙ here
 
       module _ (over : n + 1 < level .above + level .own) where
@@ -192,13 +193,13 @@ module _ {b masks lowest : List ℕ} {h : ℕ} (marked : Marked b masks lowest h
             let m : slack (decode b) i s (suc n) < demand (machineOf (decode b) i) s (suc n) = rw (add-one n, f) at l in
             rw (add-one n)
             (ap (λ x. some (Late i s (suc n) x)) f
-            ∙ sym (scan-late (decode b) i s (suc n) (2048 - suc n) not-closed (passes-slack (decode b) i s (suc n) ∙ lt-leb _ _ m))
+            ∙ sym (scan-late (decode b) i s (suc n) (longestWindow - suc n) not-closed (passes-slack (decode b) i s (suc n) ∙ lt-leb _ _ m))
             ∙ here)
 
         passed : demand (machineOf (decode b) i) s (suc n) ≤ slack (decode b) i s (suc n)
-            → scan (decode b) i s (suc (suc n)) (2048 - suc n) ≡ gives (decode b) i s
+            → scan (decode b) i s (suc (suc n)) (longestWindow - suc n) ≡ gives (decode b) i s
         passed l =
-            sym (scan-next (decode b) i s (suc n) (2048 - suc n) not-closed (passes-slack (decode b) i s (suc n) ∙ le-leb _ _ l)) ∙ here
+            sym (scan-next (decode b) i s (suc n) (longestWindow - suc n) not-closed (passes-slack (decode b) i s (suc n) ∙ le-leb _ _ l)) ∙ here
 
         -- the largest room with that of this length, and the place of the next tick
         module _ {before room place after : ℕ} (roomy : before ≡ slack (decode b) i s n) (more : room ≡ max before (n + 1 - level .above))
@@ -234,7 +235,7 @@ module _ {b masks lowest : List ℕ} {h : ℕ} (marked : Marked b masks lowest h
               ))
 
     -- no length is left
-    pub walked-open : {n : ℕ} {level : Level} {room place : ℕ} → Walked b i s h n level room place → 2048 ≤ n → n ≤ 2048
+    pub walked-open : {n : ℕ} {level : Level} {room place : ℕ} → Walked b i s h n level room place → longestWindow ≤ n → n ≤ longestWindow
         → some (Open i s) ≡ gives (decode b) i s
     walked-open {n} w a c =
-        sym (scan-open (decode b) i s (suc n)) ∙ rw (let z : 2048 - n ≡ 0 = omega arith in z) at (w .left)
+        sym (scan-open (decode b) i s (suc n)) ∙ rw (let z : longestWindow - n ≡ 0 = omega arith in z) at (w .left)

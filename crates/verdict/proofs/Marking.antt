@@ -13,69 +13,70 @@ use borrow.Author.Count.{below-more}
 use borrow.Rule.Slice.PartMut.{putMid, postOf, same-len-mid}
 use Rattle.model.specs.Machine.{machineOf, hyperperiod}
 use Rattle.sheet.specs.Format.{decode}
+use Rattle.sheet.specs.Inside.{Counted}
 use Rattle.walk.specs.Inside.{Marks, AllMarked}
-use Rattle.verdict.specs.Inside.{Masks, Idle, Counted}
+use Rattle.verdict.specs.Inside.{stride, masksSize, Masks, Idle}
 
 pub idle-begin : {masks : List ℕ} {t : ℕ} → Idle masks t 0
 idle-begin = record { before = λ j l. absurd (omega arith) }
 
-pub idle-more : {masks : List ℕ} {t j : ℕ} → Idle masks t j → getD masks (1024 * j + t) 0 ≡ 0 → Idle masks t (j + 1)
-idle-more {masks} {t} {j} h e = record { before = below-more (λ (k : ℕ). getD masks (1024 * k + t) 0 ≡ 0) j (h .before) e }
+pub idle-more : {masks : List ℕ} {t j : ℕ} → Idle masks t j → getD masks (stride * j + t) 0 ≡ 0 → Idle masks t (j + 1)
+idle-more {masks} {t} {j} h e = record { before = below-more (λ (k : ℕ). getD masks (stride * k + t) 0 ≡ 0) j (h .before) e }
 
 -- the masks of the machines before j are filled
 pub record Filled (b : List ℕ) (h j : ℕ) (masks : List ℕ) : Type 0 where
-  pub long : length masks ≡ 8192
-  pub at : (k t : ℕ) → k < j → t < h → Marks (machineOf (decode b) k) t (getD masks (1024 * k + t) 0)
+  pub long : length masks ≡ masksSize
+  pub at : (k t : ℕ) → k < j → t < h → Marks (machineOf (decode b) k) t (getD masks (stride * k + t) 0)
 
-pub filled-begin : {b : List ℕ} {h : ℕ} → Filled b h 0 (replicate 8192 0)
-filled-begin = record { long = length-replicate {A = ℕ} 8192 0; at = λ k t l. absurd (omega arith) }
+pub filled-begin : {b : List ℕ} {h : ℕ} → Filled b h 0 (replicate masksSize 0)
+filled-begin = record { long = length-replicate {A = ℕ} masksSize 0; at = λ k t l. absurd (omega arith) }
 
 module _ {b : List ℕ} {machines h : ℕ} (counted : Counted b machines h) where
   pub machines-few : machines ≤ 8
   machines-few = omega (arith, counted .count, counted .accepted .sizes .machines .1, counted .accepted .machines)
 
-  pub period-short : h ≤ 1024
+  pub period-short : h ≤ stride
   period-short = omega (arith, counted .period, counted .accepted .hyperperiod .1)
 
   -- machine j's part of the masks has H words
   pub part-long : {j : ℕ} {masks : List ℕ} → Filled b h j masks → j < machines
-      → length (take (1024 * j + h - 1024 * j) (drop (1024 * j) masks)) ≡ h
+      → length (take (stride * j + h - stride * j) (drop (stride * j) masks)) ≡ h
   part-long {j} {masks} f l =
-      length-take-le (1024 * j + h - 1024 * j) (drop (1024 * j) masks)
-      (rw (length-drop (1024 * j) masks, f .long) (omega (arith, machines-few, period-short)))
+      length-take-le (stride * j + h - stride * j) (drop (stride * j) masks)
+      (rw (length-drop (stride * j) masks, f .long) (omega (arith, machines-few, period-short)))
       ∙ omega arith
 
   -- machine j's part of the masks is filled, too
   pub filled-more : {j : ℕ} {masks : List ℕ} (part : List ℕ) → Filled b h j masks → j < machines
-      → length part ≡ length (take (1024 * j + h - 1024 * j) (drop (1024 * j) masks)) → AllMarked (machineOf (decode b) j) 0 part
-      → Filled b h (j + 1) (putMid (1024 * j) (1024 * j + h - 1024 * j) masks part)
+      → length part ≡ length (take (stride * j + h - stride * j) (drop (stride * j) masks)) → AllMarked (machineOf (decode b) j) 0 part
+      → Filled b h (j + 1) (putMid (stride * j) (stride * j + h - stride * j) masks part)
   filled-more {j} {masks} part f l e m =
       record {
-        long = same-len-mid (1024 * j) (1024 * j + h - 1024 * j) masks part e ∙ f .long;
+        long = same-len-mid (stride * j) (stride * j + h - stride * j) masks part e ∙ f .long;
         at = λ k t u v.
             elim (decLt k j) [
-              | yes w ↦ rw (earlier (1024 * k + t) (omega (arith, period-short))) (f .at k t w v)
+              | yes w ↦ rw (earlier (stride * k + t) (omega (arith, period-short))) (f .at k t w v)
               | no w ↦ rw (let z : k ≡ j = omega arith in z, own t v) (rw zero-add at (m .at t (omega (arith, size))))
             ];
       }
     where
-      head : length (take (1024 * j) masks) ≡ 1024 * j
-      head = length-take-le (1024 * j) masks (omega (arith, f .long, machines-few))
+      head : length (take (stride * j) masks) ≡ stride * j
+      head = length-take-le (stride * j) masks (omega (arith, f .long, machines-few))
 
       size : length part ≡ h
       size = e ∙ part-long f l
 
       after : List ℕ
-      after = part ++ postOf (1024 * j) (1024 * j + h - 1024 * j) masks
+      after = part ++ postOf (stride * j) (stride * j + h - stride * j) masks
 
-      earlier : (i : ℕ) → i < 1024 * j → getD (take (1024 * j) masks ++ after) i 0 ≡ getD masks i 0
-      earlier i w = List·getD-append (take (1024 * j) masks) after 0 i (omega (arith, head)) ∙ getD-take (1024 * j) masks i 0 w
+      earlier : (i : ℕ) → i < stride * j → getD (take (stride * j) masks ++ after) i 0 ≡ getD masks i 0
+      earlier i w = List·getD-append (take (stride * j) masks) after 0 i (omega (arith, head)) ∙ getD-take (stride * j) masks i 0 w
 
-      own : (t : ℕ) → t < h → getD (take (1024 * j) masks ++ after) (1024 * j + t) 0 ≡ getD part t 0
+      own : (t : ℕ) → t < h → getD (take (stride * j) masks ++ after) (stride * j + t) 0 ≡ getD part t 0
       own t v =
-          ap (λ n. getD (take (1024 * j) masks ++ after) (n + t) 0) (sym head)
-          ∙ getD-append-add (take (1024 * j) masks) after t 0
-          ∙ List·getD-append part (postOf (1024 * j) (1024 * j + h - 1024 * j) masks) 0 t (omega (arith, size))
+          ap (λ n. getD (take (stride * j) masks ++ after) (n + t) 0) (sym head)
+          ∙ getD-append-add (take (stride * j) masks) after t 0
+          ∙ List·getD-append part (postOf (stride * j) (stride * j + h - stride * j) masks) 0 t (omega (arith, size))
 
   pub filled-end : {j : ℕ} {masks : List ℕ} → Filled b h j masks → machines ≤ j → Masks b masks
   filled-end f l =
@@ -83,13 +84,13 @@ module _ {b : List ℕ} {machines h : ℕ} (counted : Counted b machines h) wher
 
 -- the lowest machines of the ticks before t are known
 pub record Lowered (masks : List ℕ) (t : ℕ) (lowest : List ℕ) : Type 0 where
-  pub long : length lowest ≡ 1024
+  pub long : length lowest ≡ stride
   pub at : (u : ℕ) → u < t → Idle masks u (getD lowest u 0)
 
-pub lowered-begin : {masks : List ℕ} → Lowered masks 0 (replicate 1024 0)
-lowered-begin = record { long = length-replicate {A = ℕ} 1024 0; at = λ u l. absurd (omega arith) }
+pub lowered-begin : {masks : List ℕ} → Lowered masks 0 (replicate stride 0)
+lowered-begin = record { long = length-replicate {A = ℕ} stride 0; at = λ u l. absurd (omega arith) }
 
-pub lowered-more : {masks : List ℕ} {t : ℕ} {lowest : List ℕ} (n : ℕ) → Lowered masks t lowest → t < 1024 → Idle masks t n
+pub lowered-more : {masks : List ℕ} {t : ℕ} {lowest : List ℕ} (n : ℕ) → Lowered masks t lowest → t < stride → Idle masks t n
     → Lowered masks (t + 1) (set lowest t n)
 lowered-more {masks} {t} {lowest} n h l i =
     record {

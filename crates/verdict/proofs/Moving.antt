@@ -5,6 +5,7 @@ use mathlib.Core.Path.{_≡_, refl, sym, _∙_}
 use mathlib.Core.List.{List}
 use native.Mathlib.Omega.{arith}
 use lib.ListN.{length}
+use Rattle.model.specs.declared.Way.the-variants.{On}
 use Rattle.model.specs.Machine.{Machine}
 use Rattle.model.specs.Sizes.{MachineSizes}
 use Rattle.model.specs.Reckon.{most}
@@ -18,7 +19,7 @@ module _ {m : Machine} (sizes : MachineSizes m) where
   pub standing-ready : {mask : ℕ} {line : Line} → Standing m mask line → Ready m mask (line .row)
   standing-ready h = row-ready sizes (h .stands .row) (omega arith) (h .marks)
 
-  pub moved-tick : {mask states : ℕ} {line : Line} {new : List ℕ} (top : ℕ) → Ticked m mask (line .row) new
+  pub moved-tick : {mask states : ℕ} {line : Line} {new : List ℕ} (top : ℕ) → Ticked On m mask (line .row) new
       → states ≡ m .states → top ≡ most states (figure new) → Moved m mask line (record { row = new; top = top })
   moved-tick {new = new} top ticked e f =
       record {

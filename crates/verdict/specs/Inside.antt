@@ -4,6 +4,7 @@ use mathlib.Core.Path.{_≡_}
 use mathlib.Core.List.{List, []}
 use mathlib.Core.Option.{Option, none, some}
 use lib.ListN.{length, getD, replicate}
+use Rattle.model.specs.Limits.{longestWindow, longestHyperperiod}
 use Rattle.model.specs.Machine.{Machine, machineOf, hyperperiod}
 use Rattle.model.specs.Legal.{asked}
 use Rattle.model.specs.Reckon.{request}
@@ -34,7 +35,7 @@ pub record LineAt (m : Machine) (s n : ℕ) (line : Line) : Type 0 where
 pub record Standing (m : Machine) (mask : ℕ) (line : Line) : Type 0 where
   pub start : ℕ
   pub ticks : ℕ
-  pub near : ticks < 2048
+  pub near : ticks < longestWindow
   pub marks : Marks m (start + ticks) mask
   pub stands : LineAt m start ticks line
 
@@ -49,16 +50,24 @@ blank = record { row = []; top = 0 }
 abbrev pub lineOf : List Line → ℕ → Line
 lineOf lines j = getD lines j blank
 
--- word 1,024 j + t of the masks marks the tick t of machine j, for the ticks below H
+-- the masks of a machine begin so many words after those of the one before
+abbrev pub stride : ℕ
+stride = longestHyperperiod
+
+-- words for the masks of 8 machines
+abbrev pub masksSize : ℕ
+masksSize = 8 * stride
+
+-- word stride j + t of the masks marks the tick t of machine j, for the ticks below H
 pub record Masks (b : List ℕ) (masks : List ℕ) : Type 0 where
-  pub long : length masks ≡ 8192
+  pub long : length masks ≡ masksSize
   pub at : (j t : ℕ) → j < machineCount b → t < hyperperiod (decode b)
-      → Marks (machineOf (decode b) j) t (getD masks (1024 * j + t) 0)
+      → Marks (machineOf (decode b) j) t (getD masks (stride * j + t) 0)
 
 -- the masks at a place mark the tick t, of every machine
 pub record Place (b : List ℕ) (masks : List ℕ) (place t : ℕ) : Type 0 where
-  pub inside : place < 1024
-  pub at : (j : ℕ) → j < machineCount b → Marks (machineOf (decode b) j) t (getD masks (1024 * j + place) 0)
+  pub inside : place < stride
+  pub at : (j : ℕ) → j < machineCount b → Marks (machineOf (decode b) j) t (getD masks (stride * j + place) 0)
 
 -- machines 0 to i have their lines for [s, s + n)
 pub record LinesAt (b : List ℕ) (i s n : ℕ) (lines : List Line) : Type 0 where
@@ -85,8 +94,8 @@ pub record Begun (mask : ℕ) (level : Level) : Type 0 where
 pub record Ticking (b masks : List ℕ) (place i n : ℕ) (level : Level) : Type 0 where
   pub accepted : Accepted b
   pub known : i < machineCount b
-  pub long : length masks ≡ 8192
-  pub near : n < 2048
+  pub long : length masks ≡ masksSize
+  pub near : n < longestWindow
   pub start : ℕ
   pub marked : Place b masks place (start + n)
   pub stands : LevelAt b i start n level
@@ -97,18 +106,12 @@ pub record LevelMoved (b masks : List ℕ) (place i n : ℕ) (old new : Level) :
 
 -- no machine before machine n has an instant at t
 pub record Idle (masks : List ℕ) (t n : ℕ) : Type 0 where
-  pub before : (j : ℕ) → j < n → getD masks (1024 * j + t) 0 ≡ 0
+  pub before : (j : ℕ) → j < n → getD masks (stride * j + t) 0 ≡ 0
 
 -- word t of `lowest` is such a machine, for the ticks below h
 pub record Lowest (h : ℕ) (masks lowest : List ℕ) : Type 0 where
-  pub long : length lowest ≡ 1024
+  pub long : length lowest ≡ stride
   pub at : (t : ℕ) → t < h → Idle masks t (getD lowest t 0)
-
--- an accepted sheet with its number of machines and its hyperperiod
-pub record Counted (b : List ℕ) (machines h : ℕ) : Type 0 where
-  pub accepted : Accepted b
-  pub count : machines ≡ machineCount b
-  pub period : h ≡ hyperperiod (decode b)
 
 -- what a walk goes by: an accepted sheet with its masks, and its hyperperiod h
 pub record Marked (b masks lowest : List ℕ) (h : ℕ) : Type 0 where

@@ -7,6 +7,8 @@ ghost use Rattle.sheet.specs.Inside.{Accepted};
 ghost use Rattle.verdict.specs.Inside.{Standing, Moved, Begun, Ticking, LevelMoved};
 use crate::Level;
 use crate::Line;
+use crate::masks::STRIDE;
+use model::Way;
 
 // A machine's line after a tick at which the actions of the mask have an instant.
 fn line_moved(sheet: &[u8], machine: usize, mask: u32, line: Line) -> Line
@@ -17,9 +19,9 @@ fn line_moved(sheet: &[u8], machine: usize, mask: u32, line: Line) -> Line
     if mask == 0 {
         return line;
     }
-    let entry = walk::entry_of(sheet, machine);
+    let entry = sheet::entry_of(sheet, machine);
     let old = line.row;
-    let row = walk::tick(sheet, entry, mask, old);
+    let row = walk::tick(sheet, entry, mask, Way::On, old);
     Line {
         top: walk::top(&row, entry.states),
         row,
@@ -61,13 +63,13 @@ pub(crate) fn level_moved(
     let mut j = 0;
     while j < machine {
         let line = next.lines[j];
-        let moved = line_moved(sheet, j, masks[1024 * j + place], line);
+        let moved = line_moved(sheet, j, masks[STRIDE * j + place], line);
         next.lines[j] = moved;
         above += moved.top;
         j += 1;
     }
     let line = next.lines[machine];
-    let mask = masks[1024 * machine + place];
+    let mask = masks[STRIDE * machine + place];
     let own = line_moved(sheet, machine, mask, line);
     next.lines[machine] = own;
     next.above = above;

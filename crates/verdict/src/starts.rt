@@ -7,6 +7,8 @@ ghost use Rattle.sheet.specs.Format.{machineCount, decode};
 ghost use Rattle.verdict.specs.Inside.{found, Marked};
 use crate::Given;
 use crate::lines;
+use crate::masks::STRIDE;
+use model::LONGEST_WINDOW;
 use reply::Window;
 
 // The place after a place, in a circle of h.
@@ -40,11 +42,11 @@ pub(crate) fn start_judged(
     requires { ⌜ Marked (now sheet) (now masks) (now lowest) h × (machine < machineCount (now sheet)) × (start < h) ⌝ }
     ensures { λ r. ⌜ found r ≡ gives (decode (now (sheet .entry))) machine start ⌝ }
 {
-    let mut level = lines::level_begun(masks[1024 * machine + start]);
+    let mut level = lines::level_begun(masks[STRIDE * machine + start]);
     let mut slack = 0;
     let mut place = start;
     let mut n = 0;
-    while n < 2048 {
+    while n < LONGEST_WINDOW {
         if lowest[place] as usize <= machine {
             let moved = lines::level_moved(sheet, masks, place, machine, n, level);
             level = moved;
@@ -56,8 +58,9 @@ pub(crate) fn start_judged(
         }
         slack = slack_after(slack, n, level.above);
         if slack < level.own {
-            let entry = walk::entry_of(sheet, machine);
-            let demand = walk::due_within(sheet, entry, level.mask, &level.row, n - level.last);
+            let entry = sheet::entry_of(sheet, machine);
+            let row = level.row;
+            let demand = walk::due_within(sheet, entry, level.mask, row, n - level.last);
             if slack < demand {
                 return Given::Late(Window {
                     machine: machine as u32,

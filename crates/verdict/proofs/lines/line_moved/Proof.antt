@@ -1,4 +1,4 @@
-use Rattle.walk.proofs.Read.{entry-sizes}
+use Rattle.sheet.proofs.Entries.{entry-sizes}
 use Rattle.verdict.proofs.Moving.{standing-ready, moved-tick, moved-not}
 use native.Mathlib.Omega.{arith}
 use Rattle.sheet.proofs.Accepted.{machine-sizes}
@@ -23,14 +23,14 @@ tick-requires c κs =
 top-requires : tie.Need-top-requires
 top-requires c κs =
     let entry = c .before .before .before .entry-of .ensures .1 in
-    omega (arith, entry .states, entry-sizes entry .states .1)
+    omega (arith, entry .read .states, entry-sizes entry .states .1)
 
 returns-2 : tie.Need-returns-2
 returns-2 c =
     let start = c .before .before .before .before .before .before .before in
     let entry = c .before .before .before .before .entry-of .ensures in
     moved-tick (machine-sizes (start .pre .0) _ (start .pre .1)) _ (rw (entry .0) at (c .before .before .tick .ensures))
-    (rw (entry .0) at (entry .1 .states)) (c .top .ensures)
+    (rw (entry .0) at (entry .1 .read .states)) (c .top .ensures)
 
 pub line-moved-spec : {M : Type 1} → statement M
 line-moved-spec =

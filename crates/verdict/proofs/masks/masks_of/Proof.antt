@@ -2,6 +2,7 @@ use Rattle.verdict.proofs.Marking.{Filled, filled-begin, filled-more, f
 use Rattle.verdict.proofs.Marking.{machines-few, period-short, part-long}
 use native.Mathlib.Omega.{arith}
 use Prim.Native.Nat.{_≤_, _-_}
+use Rattle.verdict.specs.Inside.{stride}
 use Rattle.verdict.proofs.masks.masks_of.Statement.{statement}
 use Rattle.verdict.proofs.masks.masks_of.Tie as tie
 
@@ -12,7 +13,7 @@ abbrev μ-loop : tie.MeasureT-loop
 μ-loop sheet machines h masks₀ j₀ masks j = machines - j
 
 -- the machines and the ticks of H are few
-few : (c : tie.Start Inv-loop μ-loop) → (c .args .machines ≤ 8) × (c .args .h ≤ 1024)
+few : (c : tie.Start Inv-loop μ-loop) → (c .args .machines ≤ 8) × (c .args .h ≤ stride)
 few c = (machines-few (c .pre), period-short (c .pre))
 
 loop-holds : tie.Need-loop-holds Inv-loop μ-loop

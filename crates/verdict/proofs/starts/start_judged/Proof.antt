@@ -1,7 +1,9 @@
 use Rattle.verdict.proofs.Lengths.{Walked, walked-begin, walked-inside, walked-ticking, walked-idle}
 use Rattle.verdict.proofs.Lengths.{walked-next, walked-light, walked-open, length-closes, length-late, room-now}
 use Rattle.verdict.proofs.Lengths.{machines-few, period-short, tick-place, level-small}
-use Rattle.verdict.specs.Inside.{LevelAt}
+use Rattle.verdict.specs.Inside.{stride, LevelAt}
+use Rattle.verdict.proofs.Half.{largestRequest}
+use Rattle.model.specs.Limits.{longestWindow}
 use Rattle.walk.proofs.Front.{row-ready, last-demand}
 use Rattle.sheet.proofs.Accepted.{machine-sizes}
 use Rattle.sheet.specs.Format.{decode}
@@ -13,16 +15,16 @@ use Rattle.model.specs.Machine.{machineOf}
 use native.Mathlib.Omega.{arith}
 use mathlib.Core.Logic.{⊎-elim}
 use mathlib.Core.Path.{_≡_, refl}
-use Prim.Native.Nat.{suc, _+_, _-_, _≤_, _<_}
+use Prim.Native.Nat.{suc, _+_, _-_, _*_, _≤_, _<_}
 use Rattle.verdict.proofs.starts.start_judged.Statement.{statement}
 use Rattle.verdict.proofs.starts.start_judged.Tie as tie
 
 abbrev Inv-loop : tie.InvT-loop
 Inv-loop sheet masks lowest machine start h level₀ slack₀ place₀ n₀ level slack place n =
-    (n ≤ 2048) × Walked sheet machine start h n level slack place
+    (n ≤ longestWindow) × Walked sheet machine start h n level slack place
 
 abbrev μ-loop : tie.MeasureT-loop
-μ-loop sheet masks lowest machine start h level₀ slack₀ place₀ n₀ level slack place n = 2048 - n
+μ-loop sheet masks lowest machine start h level₀ slack₀ place₀ n₀ level slack place n = longestWindow - n
 
 -- the loop's head before a tick, and the function's entry, seen from the head and from after the tick
 abbrev head : tie.Joined1 Inv-loop μ-loop → tie.At-loop Inv-loop μ-loop
@@ -35,7 +37,7 @@ abbrev begun : tie.Joined1 Inv-loop μ-loop → tie.Start Inv-loop μ-loop
 begun c = entered (head c)
 
 -- the machines and the ticks of H are few
-few : (c : tie.Start Inv-loop μ-loop) → (c .args .machine < 8) × (c .args .h ≤ 1024)
+few : (c : tie.Start Inv-loop μ-loop) → (c .args .machine < 8) × (c .args .h ≤ stride)
 few c = (machines-few (c .pre .0) (c .pre .1), period-short (c .pre .0) (c .pre .1))
 
 -- the place is below H
@@ -45,13 +47,13 @@ inside c =
     walked-inside (start .pre .0) (start .pre .1) (c .before .loop .inv .1)
 
 -- after the tick: the level has come to the next length
-near : (c : tie.Joined1 Inv-loop μ-loop) → head c .loop .n < 2048
+near : (c : tie.Joined1 Inv-loop μ-loop) → head c .loop .n < longestWindow
 near c = omega (arith, c .before .before .loop-test .taken)
 
 left : (c : tie.Joined1 Inv-loop μ-loop)
     → let n = head c .loop .n in
     let start = begun c .args in
-    scan (decode (start .sheet .now)) (start .machine) (start .start) (suc n) (2048 - n)
+    scan (decode (start .sheet .now)) (start .machine) (start .start) (suc n) (longestWindow - n)
     ≡ gives (decode (start .sheet .now)) (start .machine) (start .start)
 left c = head c .loop .inv .1 .left
 
@@ -68,31 +70,37 @@ come c =
     (λ w. rw (w .1) (walked-idle (start .pre .0) (start .pre .1) walked (w .0 .left)))
     (c .if1 .came)
 
-small : (c : tie.Joined1 Inv-loop μ-loop) → c .if1 .level .above + c .if1 .level .own ≤ 16777216
+small : (c : tie.Joined1 Inv-loop μ-loop) → c .if1 .level .above + c .if1 .level .own ≤ 8 * largestRequest
 small c = level-small (begun c .pre .0) (begun c .pre .1) (come c) (near c) (left c)
 
 -- the room so far, and what is due
+abbrev joined : tie.After-slack-after Inv-loop μ-loop → tie.Joined1 Inv-loop μ-loop
+joined c = c .before .before .before .before
+
 room : (c : tie.After-slack-after Inv-loop μ-loop)
-    → let join = c .before .before .before in
+    → let join = joined c in
     let start = begun join .args in
     c .slack-after .result ≡ slack (decode (start .sheet .now)) (start .machine) (start .start) (head join .loop .n + 1)
 room c =
-    let join = c .before .before .before in
+    let join = joined c in
     let start = begun join in
     let walked = head join .loop .inv .1 in
     room-now (start .pre .0) (start .pre .1) (come join) (near join) (left join) (c .before .if2 .left) (walked .roomy)
-    (c .slack-after .ensures) (walked .placed) (c .before .before .place-after .ensures)
+    (c .slack-after .ensures) (walked .placed) (c .before .before .before .place-after .ensures)
 
 sizes : (c : tie.Start Inv-loop μ-loop) → MachineSizes (machineOf (decode (c .args .sheet .now)) (c .args .machine))
 sizes c = machine-sizes (c .pre .0 .accepted) _ (c .pre .1)
 
+abbrev owing : tie.Then3 Inv-loop μ-loop → tie.After-slack-after Inv-loop μ-loop
+owing c = c .before .before
+
 due : (c : tie.After-due-within Inv-loop μ-loop)
-    → let join = c .before .before .before .before .before .before .before .before in
+    → let join = joined (owing (c .before .before .before .before)) in
     let start = begun join .args in
     c .due-within .result
     ≡ demand (machineOf (decode (start .sheet .now)) (start .machine)) (start .start) (head join .loop .n + 1)
 due c =
-    let join = c .before .before .before .before .before .before .before .before in
+    let join = joined (owing (c .before .before .before .before)) in
     let entry = c .before .before .before .entry-of .ensures in
     let last = come join .last in
     last-demand (sizes (begun join)) last (omega (arith, last .last .early)) (rw (entry .0) at (c .due-within .ensures))
@@ -143,11 +151,11 @@ place-after-requires : tie.Need-place-after-requires Inv-loop μ-loop
 place-after-requires c κs = inside (c .before .before)
 
 add-if2 : tie.Need-add-if2 Inv-loop μ-loop
-add-if2 c = omega (arith, small (c .before))
+add-if2 c = omega (arith, small (c .before .before))
 
 returns : tie.Need-returns Inv-loop μ-loop
 returns c =
-    let join = c .before .before in
+    let join = c .before .before .before in
     let start = begun join in
     length-closes (start .pre .0) (start .pre .1) (come join) (near join) (left join) (c .if2 .taken)
 
@@ -156,31 +164,33 @@ slack-after-requires c κs = tt
 
 entry-of-requires : tie.Need-entry-of-requires Inv-loop μ-loop
 entry-of-requires c κs =
-    let start = begun (c .before .before .before .before) in
+    let start = begun (joined (owing c)) in
     (start .pre .0 .accepted, start .pre .1)
 
 sub-due-within : tie.Need-sub-due-within Inv-loop μ-loop
-sub-due-within c = omega (arith, come (c .before .before .before .before .before .before .before) .last .last .early)
+sub-due-within c = omega (arith, come (joined (owing (c .before .before .before))) .last .last .early)
 
 due-within-requires : tie.Need-due-within-requires Inv-loop μ-loop
 due-within-requires c κs =
-    let join = c .before .before .before .before .before .before .before in
+    let join = joined (owing (c .before .before .before)) in
     let entry = c .before .before .entry-of .ensures in
     let last = come join .last in
     let close = near join in
     let ready = row-ready (sizes (begun join)) (last .figures) (omega (arith, last .last .early)) (last .marks) in
     (entry .1, rw (entry .0) ready)
 
-cast-t33 : tie.Need-cast-t33 Inv-loop μ-loop
-cast-t33 c = omega (arith, few (begun (c .before .before .before .before .before .before .before .before .before)))
+cast-t27 : tie.Need-cast-t27 Inv-loop μ-loop
+cast-t27 c = omega (arith, few (begun (joined (owing (c .before .before .before .before .before)))))
 
-cast-t34 : tie.Need-cast-t34 Inv-loop μ-loop
-cast-t34 c = omega (arith, few (begun (c .before .before .before .before .before .before .before .before .before)))
+cast-t28 : tie.Need-cast-t28 Inv-loop μ-loop
+cast-t28 c =
+    let start = begun (joined (owing (c .before .before .before .before .before))) in
+    omega (arith, few start, start .pre .2)
 
 returns-2 : tie.Need-returns-2 Inv-loop μ-loop
 returns-2 c =
-    let roomy = c .before .before .before .before .before .before in
-    let join = roomy .before .before .before in
+    let roomy = owing (c .before .before .before .before .before) in
+    let join = joined roomy in
     let start = begun join in
     length-late (start .pre .0) (start .pre .1) (come join) (near join) (left join) (roomy .before .if2 .left) _
     (due (c .before)) (rw (← (room roomy)) (c .if4 .taken))
@@ -190,13 +200,13 @@ loop-less c = omega arith
 
 loop-again : tie.Need-loop-again Inv-loop μ-loop
 loop-again c =
-    let roomy = c .before .before .before .before .before .before in
-    let join = roomy .before .before .before in
+    let roomy = owing (c .before .before .before .before .before) in
+    let join = joined roomy in
     let start = begun join in
     let walked = head join .loop .inv .1 in (
       omega (arith, near join),
       walked-next (start .pre .0) (start .pre .1) (come join) (near join) (left join) (roomy .before .if2 .left)
-          (walked .roomy) (roomy .slack-after .ensures) (walked .placed) (roomy .before .before .place-after .ensures)
+          (walked .roomy) (roomy .slack-after .ensures) (walked .placed) (roomy .before .before .before .place-after .ensures)
           (omega (arith, due (c .before), c .if4 .left)),
     )
 
@@ -205,21 +215,21 @@ loop-less-2 c = omega arith
 
 loop-again-2 : tie.Need-loop-again-2 Inv-loop μ-loop
 loop-again-2 c =
-    let roomy = c .before in
-    let join = roomy .before .before .before in
+    let roomy = c .before .before in
+    let join = joined roomy in
     let start = begun join in
     let walked = head join .loop .inv .1 in (
       omega (arith, near join),
       walked-light (start .pre .0) (start .pre .1) (come join) (near join) (left join) (roomy .before .if2 .left)
-          (walked .roomy) (roomy .slack-after .ensures) (walked .placed) (roomy .before .before .place-after .ensures)
+          (walked .roomy) (roomy .slack-after .ensures) (walked .placed) (roomy .before .before .before .place-after .ensures)
           (c .if3 .left),
     )
 
 cast-t19 : tie.Need-cast-t19 Inv-loop μ-loop
 cast-t19 c = omega (arith, few (entered (c .before)))
 
-cast-t36 : tie.Need-cast-t36 Inv-loop μ-loop
-cast-t36 c = omega (arith, few (entered (c .before)))
+cast-t30 : tie.Need-cast-t30 Inv-loop μ-loop
+cast-t30 c = omega (arith, few (entered (c .before)))
 
 returns-3 : tie.Need-returns-3 Inv-loop μ-loop
 returns-3 c =
@@ -250,13 +260,13 @@ start-judged-spec =
     entry-of-requires
     sub-due-within
     due-within-requires
-    cast-t33
-    cast-t34
+    cast-t27
+    cast-t28
     returns-2
     loop-less
     loop-again
     loop-less-2
     loop-again-2
     cast-t19
-    cast-t36
+    cast-t30
     returns-3)
