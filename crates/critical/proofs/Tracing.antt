@@ -20,8 +20,8 @@ use Rattle.model.proofs.Critical.{best-waits, firstBest-waits, firstBest-takes}
 use Rattle.walk.specs.Inside.{Marks, AllMarked}
 use Rattle.critical.specs.declared.forward.Leaves.{Leaves}
 use Rattle.critical.specs.declared.forward.Leaves.the-variants.{Any, State}
-use Rattle.critical.specs.Critical.{wordsOf}
-use Rattle.critical.specs.Inside.{pairsSize, Holds, Table, makesAt, FirstMaking}
+use Rattle.critical.specs.Critical.{longestWords, wordsOf}
+use Rattle.critical.specs.Inside.{Holds, Table, makesAt, FirstMaking}
 use Rattle.critical.proofs.Words.{words-length, pair-written}
 use Rattle.critical.proofs.Making.{allows, makes-is}
 
@@ -33,12 +33,12 @@ onward m t n leaves = wordsOf (firstBest m (asked m) t n (allows m leaves))
 pub record Tracing (m : Machine) (s n k : ℕ) (leaves : Leaves) (left number : ℕ) (pairs : List ℕ) : Type 0 where
   pub early : k ≤ n
   pub few : number ≤ k
-  pub long : length pairs ≡ pairsSize
+  pub long : length pairs ≡ longestWords
   pub begun : (q : ℕ) → allows m leaves q ≡ true → begins? m q ≡ true
   pub goal : left ≡ best m (asked m) (s + k) (n - k) (allows m leaves)
   pub words : take (2 * number) pairs ++ onward m (s + k) (n - k) leaves ≡ wordsOf (critical m s n)
 
-pub tracing-begin : {m : Machine} {s n bound : ℕ} {pairs : List ℕ} → length pairs ≡ pairsSize → bound ≡ request m s n
+pub tracing-begin : {m : Machine} {s n bound : ℕ} {pairs : List ℕ} → length pairs ≡ longestWords → bound ≡ request m s n
     → Tracing m s n 0 Any bound 0 pairs
 unfolding critical request
 tracing-begin {s = s} {n = n} long e =

@@ -4,6 +4,7 @@ use Prim.Native.Nat.{ℕ, zero, suc, _-_, _*_}
 use mathlib.Core.List.{List, [], _∷_}
 use mathlib.Core.Option.{Option}
 use lib.ListN.{length, getD, drop}
+use Rattle.model.specs.Limits.{longestWindow}
 use Rattle.model.specs.Machine.{Machine, machineOf}
 use Rattle.model.specs.Legal.{Pair}
 use Rattle.model.specs.Reckon.{pair}
@@ -24,6 +25,10 @@ sequenceOf b i s f = critical (machineOf (decode b) i) s (f - s)
 unfoldable pub wordsOf : List Pair → List ℕ
 wordsOf [] = []
 wordsOf (p ∷ σ) = p .action ∷ p .instant ∷ wordsOf σ
+
+-- the words of the longest sequence: at most one pair for each tick
+abbrev pub longestWords : ℕ
+longestWords = 2 * longestWindow
 
 -- the refusal of a question about machine i of sheet b and [s, f), if there is one: two words a pair are needed
 unfoldable pub criticalRefusal : List ℕ → ℕ → ℕ → ℕ → ℕ → Option Refusal

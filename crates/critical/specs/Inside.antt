@@ -33,10 +33,7 @@ pub record Holds (σ : List Pair) (n : ℕ) (words : List ℕ) : Type 0 where
   pub number : n ≡ length σ
   pub pairs : take (2 * n) words ≡ wordsOf σ
 
--- words for the longest sequence, and for a row for each tick of the longest window and its end
-abbrev pub pairsSize : ℕ
-pairsSize = 2 * longestWindow
-
+-- words for a row for each tick of the longest window, and for its end
 abbrev pub tableSize : ℕ
 tableSize = 16 * (longestWindow + 1)
 

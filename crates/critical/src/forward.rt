@@ -5,7 +5,8 @@ ghost use lib.ListN.{length, set};
 ghost use Rattle.model.specs.Reckon.{request};
 ghost use Rattle.sheet.specs.Inside.{machineAt, IsEntry};
 ghost use Rattle.walk.specs.Inside.{Ready, Joins};
-ghost use Rattle.critical.specs.Inside.{Marked, pairsSize, markedSequence, Holds, Table};
+ghost use Rattle.critical.specs.Critical.{longestWords};
+ghost use Rattle.critical.specs.Inside.{Marked, markedSequence, Holds, Table};
 ghost use Rattle.critical.specs.Inside.{mayLeave, makesUp, FirstMaking};
 use model::Way;
 use sheet::Entry;
@@ -28,7 +29,7 @@ pub(crate) fn trace(
     table: &[u32],
     pairs: &mut [u32],
 ) -> usize
-    requires { ⌜ Marked (now sheet) entry from (now masks) × (length (now pairs) ≡ pairsSize) ⌝ }
+    requires { ⌜ Marked (now sheet) entry from (now masks) × (length (now pairs) ≡ longestWords) ⌝ }
     requires { ⌜ Table (machineAt (now sheet) entry) from (length (now masks)) 0 (now table) ⌝ }
     requires { ⌜ bound ≡ request (machineAt (now sheet) entry) from (length (now masks)) ⌝ }
     ensures { λ r. ⌜ Holds (markedSequence (now (sheet .entry)) entry from (now (masks .entry))) r

@@ -9,19 +9,19 @@ ghost use Rattle.model.specs.Machine.{machineOf};
 ghost use Rattle.reply.specs.Answer.{paper};
 ghost use Rattle.sheet.specs.Format.{decode};
 ghost use Rattle.window.specs.Inside.{Proper};
-ghost use Rattle.critical.specs.Critical.{sequenceOf, criticalReply, criticalWords, HoldsCritical};
-ghost use Rattle.critical.specs.Inside.{Marked, pairsSize, markedSequence, Holds};
+ghost use Rattle.critical.specs.Critical.{longestWords, sequenceOf, criticalReply, criticalWords, HoldsCritical};
+ghost use Rattle.critical.specs.Inside.{Marked, markedSequence, Holds};
 use model::LONGEST_WINDOW;
 use reply::Answer;
 use reply::Rule;
 use sheet::Entry;
 use walk::WINDOW_MASKS;
 
-// The table has a row of 16 words for each tick of the longest window, and one for its end. At most
-// one pair for each tick is found, and takes two words.
-const TABLE_SIZE: usize = 16 * WINDOW_MASKS;
+// The words of the longest sequence: at most one pair for each tick.
+pub const LONGEST_WORDS: usize = 2 * LONGEST_WINDOW as usize;
 
-const PAIRS_SIZE: usize = 2 * LONGEST_WINDOW as usize;
+// The table has a row of 16 words for each tick of the longest window, and one for its end.
+const TABLE_SIZE: usize = 16 * WINDOW_MASKS;
 
 // The critical sequence of a machine and the window from `from` to `to`: its number of pairs, and in
 // `words` two words a pair, the action and the instant; words beyond stay as they were. Or the
@@ -35,7 +35,7 @@ pub fn critical(sheet: &[u8], machine: u32, from: u32, to: u32, words: &mut [u32
     if let Rule::Broken(refusal) = rule {
         return Answer::Refused(refusal);
     }
-    let mut pairs = [0u32; PAIRS_SIZE];
+    let mut pairs = [0u32; LONGEST_WORDS];
     let number = find(sheet, machine as usize, from, to, &mut pairs);
     let needed = 2 * number;
     if words.len() < needed {
@@ -47,7 +47,7 @@ pub fn critical(sheet: &[u8], machine: u32, from: u32, to: u32, words: &mut [u32
 
 // Finds the critical sequence: its number of pairs, with which `pairs` then begins.
 fn find(sheet: &[u8], machine: usize, from: u32, to: u32, pairs: &mut [u32]) -> usize
-    requires { ⌜ Proper (now sheet) machine from to × (length (now pairs) ≡ pairsSize) ⌝ }
+    requires { ⌜ Proper (now sheet) machine from to × (length (now pairs) ≡ longestWords) ⌝ }
     ensures { λ r. ⌜ Holds (sequenceOf (now (sheet .entry)) machine from to) r (now (pairs .exit)) ⌝ }
 {
     let entry = sheet::entry_of(sheet, machine);
@@ -58,7 +58,7 @@ fn find(sheet: &[u8], machine: usize, from: u32, to: u32, pairs: &mut [u32]) -> 
 
 // The same of the window's ticks that the masks mark.
 fn find_marked(sheet: &[u8], entry: Entry, from: u32, masks: &[u32], pairs: &mut [u32]) -> usize
-    requires { ⌜ Marked (now sheet) entry from (now masks) × (length (now pairs) ≡ pairsSize) ⌝ }
+    requires { ⌜ Marked (now sheet) entry from (now masks) × (length (now pairs) ≡ longestWords) ⌝ }
     ensures { λ r. ⌜ Holds (markedSequence (now (sheet .entry)) entry from (now (masks .entry))) r
         (now (pairs .exit)) ⌝ }
 {

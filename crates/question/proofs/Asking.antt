@@ -26,7 +26,7 @@ use Rattle.sheet.proofs.Tests.{same-test}
 use Rattle.window.specs.Window.{questionRefusal}
 use Rattle.bounds.specs.Table.{requestTable, tableRefusal, tableReply, withTable, tableWords}
 use Rattle.bounds.proofs.Filling.{listed-length}
-use Rattle.critical.specs.Critical.{sequenceOf, wordsOf, criticalRefusal, criticalReply, criticalWords, pairsIn}
+use Rattle.critical.specs.Critical.{longestWords, sequenceOf, wordsOf, criticalRefusal, criticalReply, criticalWords, pairsIn}
 use Rattle.critical.proofs.Words.{words-pairs}
 use Rattle.text.specs.declared.Printed.{Printed}
 use Rattle.text.specs.Text.{row, readNumber}
@@ -84,9 +84,9 @@ module _ (b : List ℕ) (i s n : ℕ) (r : Tabled) (says : tabledPaper r ≡ tab
     kept : tableRefusal b i s n (length lent) ≡ none
     kept = answered 0 [] _ (ap tabledPaper (sym e) ∙ says) .0
 
-    pub table-room : n + 1 ≤ 4096
+    pub table-room : n + 1 ≤ longestWords
     unfolding tableRefusal
-    table-room = enough (n + 1) 4096 (orElse-none (questionRefusal b i s (s + n)) _ kept .1)
+    table-room = enough (n + 1) longestWords (orElse-none (questionRefusal b i s (s + n)) _ kept .1)
 
     module _ (words : List ℕ) (p : words ≡ tableWords b i s n lent) where
       front : take (n + 1) words ≡ requestTable (machineOf (decode b) i) s n
@@ -128,10 +128,10 @@ module _ (b : List ℕ) (i s f : ℕ) (r : Answer) (says : paper r ≡ criticalR
     counted : number ≡ length (sequenceOf b i s f)
     counted = let q = found .1 in cc
 
-    pub critical-room : 2 * number ≤ 4096
+    pub critical-room : 2 * number ≤ longestWords
     unfolding criticalRefusal
     critical-room =
-        rw counted (enough _ 4096 (orElse-none (questionRefusal b i s f) _ (found .0) .1))
+        rw counted (enough _ longestWords (orElse-none (questionRefusal b i s f) _ (found .0) .1))
 
     pairs : (words : List ℕ) → words ≡ criticalWords b i s f lent
         → pairLines (pairsIn number words) ≡ written Critical b i s f

@@ -13,7 +13,7 @@ use Rattle.sheet.specs.Format.{decode}
 use Rattle.sheet.specs.Rules.{same}
 use Rattle.bounds.specs.Bounds.{requestReply, demandReply}
 use Rattle.bounds.specs.Table.{requestTable, tableReply}
-use Rattle.critical.specs.Critical.{sequenceOf, criticalReply}
+use Rattle.critical.specs.Critical.{longestWords, sequenceOf, criticalReply}
 use Rattle.plain.specs.Plain.{plainReply}
 use Rattle.text.specs.Text.{ascii, row, readNumber}
 use Rattle.text.specs.Lent.{refusedLine}
@@ -67,7 +67,7 @@ refusalIn (answer number figures) = none
 
 -- the words that `ask` lends: enough for the longest table and the longest critical sequence
 abbrev pub lent : List ℕ
-lent = replicate 4096 0
+lent = replicate longestWords 0
 
 -- the reply about machine i of sheet b and the window from s to f
 unfoldable pub answerReply : Kind → List ℕ → ℕ → ℕ → ℕ → Reply

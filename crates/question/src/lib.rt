@@ -11,6 +11,7 @@ ghost use Rattle.question.specs.declared.Kind.the-variants.{Table, Criti
 ghost use Rattle.question.specs.Ask.{kindOf, asks, numberLines, pairLines, refusalIn, replyText};
 ghost use Rattle.question.specs.Ask.{answerText, answerRefusal, askText, askRefusal};
 ghost use Rattle.question.specs.Inside.{named};
+use critical::LONGEST_WORDS;
 use reply::Answer;
 use reply::Tabled;
 use text::Number;
@@ -145,7 +146,7 @@ fn print_table(out: &mut [u8], sheet: &[u8], machine: u32, from: u32, length: u3
     ensures { λ r. ⌜ Prints (now (out .entry)) (answerText Table (now (sheet .entry)) machine from length)
         (answerRefusal Table (now (sheet .entry)) machine from length) r (now (out .exit)) ⌝ }
 {
-    let mut words = [0u32; 4096];
+    let mut words = [0u32; LONGEST_WORDS];
     let tabled = bounds::table(sheet, machine, from, length, &mut words);
     match tabled {
         Tabled::Filled => text::unrefused(put_numbers(out, &words[..length as usize + 1])),
@@ -159,7 +160,7 @@ fn print_critical(out: &mut [u8], sheet: &[u8], machine: u32, from: u32, to: u32
     ensures { λ r. ⌜ Prints (now (out .entry)) (answerText Critical (now (sheet .entry)) machine from to)
         (answerRefusal Critical (now (sheet .entry)) machine from to) r (now (out .exit)) ⌝ }
 {
-    let mut words = [0u32; 4096];
+    let mut words = [0u32; LONGEST_WORDS];
     let answer = critical::critical(sheet, machine, from, to, &mut words);
     match answer {
         Answer::Value(pairs) => {

@@ -9,6 +9,7 @@ use native.Mathlib.Omega.{arith}
 use native.Mathlib.Numerals.{add-one}
 use borrow.Author.Tests.{le-leb}
 use lib.ListN.{length}
+use Rattle.model.specs.Limits.{longestWindow, lastTick, longestHyperperiod}
 use Rattle.model.specs.Machine.{count, machineOf, hyperperiod}
 use Rattle.model.specs.Reckon.{request}
 use Rattle.model.specs.Verdict.{Judgement, verdict, Fits as fits, Late as late, Open as opened}
@@ -22,9 +23,8 @@ use Rattle.reply.specs.Answer.{paper}
 use Rattle.reply.specs.Verdict.{paper as judgedPaper}
 use Rattle.sheet.specs.Format.{machineCount, decode}
 use Rattle.sheet.specs.Check.{refusalOf}
-use Rattle.sheet.specs.Inside.{Accepted, Entered}
+use Rattle.sheet.specs.Inside.{Counted}
 use Rattle.sheet.proofs.Decode.{decode-count}
-use Rattle.sheet.proofs.Answer.{not-refused}
 use Rattle.window.specs.Window.{windowInRange}
 use Rattle.window.proofs.Asked.{question-kept}
 use Rattle.bounds.specs.Bounds.{requestReply}
@@ -36,20 +36,16 @@ use Rattle.text.specs.Inside.{Put, Prints}
 use Rattle.text.proofs.Laws.{put-then, put-nothing}
 use Rattle.text.proofs.Printing.{Promised, promised-unique}
 use Rattle.report.specs.Fit.{machineLine, machineLines, verdictLine, acceptedText, fitText}
-use Rattle.report.specs.Inside.{Admitted}
 
-module _ {b : List ℕ} {i h : ℕ} (a : Admitted b h) (known : i < machineCount b) where
-  accepted : Accepted b
-  accepted = not-refused b (a .admitted)
-
+module _ {b : List ℕ} {i h : ℕ} (a : Counted b (machineCount b) h) (known : i < machineCount b) where
   in-range : windowInRange 0 h ≡ true
   in-range =
-      let few : h ≤ 1024 = omega (arith, a .period, accepted .hyperperiod) in
-      rw (le-leb 0 h (omega arith), le-leb h 2048 (omega arith), le-leb h 1000000 (omega arith)) refl
+      let few : h ≤ longestHyperperiod = omega (arith, a .period, a .accepted .hyperperiod) in
+      rw (le-leb 0 h (omega arith), le-leb h longestWindow (omega arith), le-leb h lastTick (omega arith)) refl
 
   whole-reply : requestReply b i 0 h ≡ answer 0 (request (machineOf (decode b) i) 0 (hyperperiod (decode b)) ∷ [])
   whole-reply =
-      let kept = question-kept b i 0 h (a .admitted) known in-range in
+      let kept = question-kept b i 0 h (a .accepted .unrefused) known in-range in
       let all : h - 0 ≡ hyperperiod (decode b) = omega (arith, a .period) in
       ap (λ x. x otherwise answer 0 (request (machineOf (decode b) i) 0 (h - 0) ∷ [])) kept
       ∙ ap (λ n. answer 0 (request (machineOf (decode b) i) 0 n ∷ [])) all
@@ -61,9 +57,6 @@ module _ {b : List ℕ} {i h : ℕ} (a : Admitted b h) (known : i < machineCount
 
   pub whole-never : {r : Answer} {x : Refusal} {v w : ℕ} → paper r ≡ requestReply b i 0 h → r ≡ Refused x → v ≡ w
   whole-never {r} {x} e p = let z = whole-reply in absurd (let z : _≡_ {A = ℕ} 0 1 = cc in omega arith)
-
-  pub entered : Entered b
-  entered = accepted .ranged .filled .entered
 
 -- the line of a machine, from its figures
 pub machine-put : (b : List ℕ) (i : ℕ) {before after : List ℕ} {at r states actions bound : ℕ}
@@ -116,13 +109,13 @@ module _ (b : List ℕ) (kept : refusalOf b ≡ none) (r : Verdict) (says : judg
       never (opened m s) p = let z : _≡_ {A = ℕ} 0 1 = cc in omega arith
 
 -- the lines of an accepted sheet, one after another
-pub accepted-put : (b : List ℕ) {b0 b1 b2 b3 : List ℕ} {h n r1 r2 r3 : ℕ} → Admitted b h → n ≡ machineCount b
+pub accepted-put : (b : List ℕ) {b0 b1 b2 b3 : List ℕ} {h n r1 r2 r3 : ℕ} → Counted b n h
     → Put b0 0 (line (ascii "H") (h ∷ [])) r1 b1 → Put b1 r1 (machineLines (decode b) n) r2 b2
     → Put b2 r2 (verdictLine (verdict (decode b))) r3 b3 → Put b0 0 (acceptedText (decode b)) r3 b3
-accepted-put b {b0} {b3 = b3} {h = h} {n = n} {r3 = r3} a known p q s =
+accepted-put b {b0} {b3 = b3} {h = h} {n = n} {r3 = r3} a p q s =
     let lines = machineLines (decode b) n ++ verdictLine (verdict (decode b)) in
     let all : Put b0 0 (line (ascii "H") (h ∷ []) ++ lines) r3 b3 = put-then p (put-then q s) in
-    rw (a .period, known ∙ sym (decode-count b)) at all
+    rw (a .period, a .count ∙ sym (decode-count b)) at all
 
 -- the text of `fit`, by what the rules say
 module _ (b : List ℕ) {before after : List ℕ} {r : Printed} where

@@ -1,6 +1,5 @@
 // The text of `fit`, made in lent bytes. Definitions: specs/Fit.antt.
 ghost use mathlib.Core.Path.{_≡_};
-ghost use mathlib.Core.Option.{none};
 ghost use Prim.Native.Nat.{_+_, _*_, _≤_, _<_};
 ghost use lib.ListN.{length};
 ghost use Rattle.model.specs.Machine.{machineOf, hyperperiod};
@@ -8,10 +7,10 @@ ghost use Rattle.model.specs.Reckon.{request};
 ghost use Rattle.model.specs.Verdict.{verdict};
 ghost use Rattle.sheet.specs.Format.{machineCount, decode};
 ghost use Rattle.sheet.specs.Check.{refusalOf};
+ghost use Rattle.sheet.specs.Inside.{Accepted, Counted};
 ghost use Rattle.text.specs.Lent.{printedLength, printedRefusal, printed};
 ghost use Rattle.text.specs.Inside.{Put};
 ghost use Rattle.report.specs.Fit.{machineLine, machineLines, verdictLine, acceptedText, fitText};
-ghost use Rattle.report.specs.Inside.{Admitted};
 use reply::Answer;
 use reply::Checked;
 use reply::Verdict;
@@ -20,7 +19,7 @@ use text::Printed;
 
 // The request bound of [0, H) of a machine.
 fn whole_request(sheet: &[u8], machine: usize, h: u32) -> u32
-    requires { ⌜ Admitted (now sheet) h × (machine < machineCount (now sheet)) ⌝ }
+    requires { ⌜ Counted (now sheet) (machineCount (now sheet)) h × (machine < machineCount (now sheet)) ⌝ }
     ensures { λ r. ⌜ r ≡ request (machineOf (decode (now (sheet .entry))) machine) 0
         (hyperperiod (decode (now (sheet .entry)))) ⌝ }
 {
@@ -33,7 +32,7 @@ fn whole_request(sheet: &[u8], machine: usize, h: u32) -> u32
 
 // The line of a machine.
 fn put_machine(out: &mut [u8], at: usize, sheet: &[u8], machine: usize, h: u32) -> usize
-    requires { ⌜ Admitted (now sheet) h × (machine < machineCount (now sheet)) × (at + 46 ≤ length (now out)) ⌝ }
+    requires { ⌜ Counted (now sheet) (machineCount (now sheet)) h × (machine < machineCount (now sheet)) × (at + 46 ≤ length (now out)) ⌝ }
     ensures { λ r. ⌜ Put (now (out .entry)) at (machineLine (decode (now (sheet .entry))) machine) r (now (out .exit))
         × (r ≤ at + 46) ⌝ }
 {
@@ -46,7 +45,7 @@ fn put_machine(out: &mut [u8], at: usize, sheet: &[u8], machine: usize, h: u32) 
 
 // The lines of the machines.
 fn put_machines(out: &mut [u8], at: usize, sheet: &[u8], machines: usize, h: u32) -> usize
-    requires { ⌜ Admitted (now sheet) h × (machines ≡ machineCount (now sheet))
+    requires { ⌜ Counted (now sheet) machines h
         × (at + 46 * machines ≤ length (now out)) ⌝ }
     ensures { λ r. ⌜ Put (now (out .entry)) at (machineLines (decode (now (sheet .entry))) machines) r (now (out .exit))
         × (r ≤ at + 46 * machines) ⌝ }
@@ -62,7 +61,7 @@ fn put_machines(out: &mut [u8], at: usize, sheet: &[u8], machines: usize, h: u32
 
 // The line of the verdict.
 fn put_verdict(out: &mut [u8], at: usize, sheet: &[u8]) -> usize
-    requires { ⌜ (refusalOf (now sheet) ≡ none) × (at + 49 ≤ length (now out)) ⌝ }
+    requires { ⌜ Accepted (now sheet) × (at + 49 ≤ length (now out)) ⌝ }
     ensures { λ r. ⌜ Put (now (out .entry)) at (verdictLine (verdict (decode (now (sheet .entry)))))
         r (now (out .exit)) ⌝ }
 {
@@ -83,7 +82,7 @@ fn put_verdict(out: &mut [u8], at: usize, sheet: &[u8]) -> usize
 
 // The text of an accepted sheet.
 fn put_accepted(out: &mut [u8], sheet: &[u8], machines: usize, h: u32) -> usize
-    requires { ⌜ Admitted (now sheet) h × (machines ≡ machineCount (now sheet)) × (512 ≤ length (now out)) ⌝ }
+    requires { ⌜ Counted (now sheet) machines h × (512 ≤ length (now out)) ⌝ }
     ensures { λ r. ⌜ Put (now (out .entry)) 0 (acceptedText (decode (now (sheet .entry)))) r (now (out .exit)) ⌝ }
 {
     let numbers = [h];

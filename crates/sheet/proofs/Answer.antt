@@ -16,7 +16,7 @@ use Rattle.reply.specs.Reply.{Reply, answer, refusal, refused, unless, _orElse_
 use Rattle.reply.specs.Checked.{paper}
 use Rattle.sheet.specs.Rules.{rule1, rule2, rule3, rule4, rule5, rule6, rule7, rule8, rule9}
 use Rattle.sheet.specs.Check.{refusalOf, checkReply}
-use Rattle.sheet.specs.Inside.{trailerRules, firstRules, Laid, Entered, Filled, Ranged, Accepted as IsAccepted}
+use Rattle.sheet.specs.Inside.{trailerRules, firstRules, Laid, Ranged, Counted, Accepted as IsAccepted}
 use Rattle.reply.proofs.Refusals.{orElse-assoc, orElse-none, orElse-found, orElse-clear}
 use Rattle.reply.proofs.Unique.{checked-unique}
 use Rattle.sheet.proofs.Accepted.{laid, entered, filled, ranged, accepted}
@@ -101,12 +101,11 @@ module _ (b : List ℕ) where
       cases none q = absurd (let h = decided none q r p in let z : _≡_ {A = ℕ} 0 1 = cc in omega arith)
       cases (some y) q = let h = decided (some y) q r p in let z : y ≡ x = cc in q ∙ ap some z
 
-  pub accepted-so : {r : Checked} {m h : ℕ} → paper r ≡ checkReply b → r ≡ Accepted m h
-      → (refusalOf b ≡ none) × (m ≡ machineCount b) × (h ≡ hyperperiod (decode b))
+  pub accepted-so : {r : Checked} {m h : ℕ} → paper r ≡ checkReply b → r ≡ Accepted m h → Counted b m h
   accepted-so {r} {m} {h} p e = cases (refusalOf b) refl
     where
-      cases : (y : Option Refusal) → refusalOf b ≡ y → (refusalOf b ≡ none) × (m ≡ machineCount b) × (h ≡ hyperperiod (decode b))
-      cases none q = let d = decided none q r p in (q, cc, cc)
+      cases : (y : Option Refusal) → refusalOf b ≡ y → Counted b m h
+      cases none q = let d = decided none q r p in record { accepted = not-refused b q; count = cc; period = cc }
       cases (some y) q = absurd (let d = decided (some y) q r p in let z : _≡_ {A = ℕ} 0 1 = cc in omega arith)
 
 -- no second result satisfies the contract of `check`

@@ -1,6 +1,7 @@
 use Rattle.reply.specs.Inside.{found}
 use Rattle.window.specs.Window.{questionRefusal}
 use Rattle.window.proofs.Asked.{proper}
+use Rattle.critical.specs.Critical.{longestWords}
 use Rattle.critical.proofs.Words.{holds-room}
 use Rattle.critical.proofs.Replied.{refusal-question, refusal-short, critical-refused, critical-found}
 use Prim.Native.Nat.{_*_, _≤_}
@@ -8,7 +9,6 @@ use mathlib.Core.Path.{_≡_, refl, sym, _∙_, ap}
 use mathlib.Core.Option.{none}
 use native.Mathlib.Omega.{arith}
 use lib.Seq.{length-take-le}
-use Rattle.critical.specs.Inside.{pairsSize}
 use borrow.Author.Needs.{needs}
 use Rattle.critical.proofs.critical.Statement.{statement}
 use Rattle.critical.proofs.critical.Tie as tie
@@ -20,7 +20,7 @@ kept : (c : tie.After-enum-told)
 kept c = sym (c .before .before .question .ensures) ∙ ap found (c .enum-told .given .1)
 
 -- at most one pair for each tick is found
-few : (c : tie.After-find) → 2 * c .find .result ≤ pairsSize
+few : (c : tie.After-find) → 2 * c .find .result ≤ longestWords
 few c = omega (arith, holds-room (c .find .ensures), c .find .kept .1 .1 .1 .1 .0)
 
 question-requires : tie.Need-question-requires

@@ -38,8 +38,8 @@ put-accepted-requires : tie.Need-put-accepted-requires
 put-accepted-requires c κs =
     let known = c .before .before in
     let check = known .before .before in
-    let (kept, count, period) = accepted-so _ (check .check .ensures) (known .checked2 .given .1) in
-    (record { admitted = kept; period = period }, count, omega (arith, check .before .if1 .left))
+    let counted = accepted-so _ (check .check .ensures) (known .checked2 .given .1) in
+    (counted, omega (arith, check .before .if1 .left))
 
 unrefused-requires-2 : tie.Need-unrefused-requires-2
 unrefused-requires-2 c κs = search needs
@@ -63,9 +63,10 @@ returns-3 c =
     let put = c .before .before .before in
     let known = put .before .before .before in
     let check = known .before .before in
-    let (kept, _, _) = accepted-so _ (check .check .ensures) (known .checked2 .given .1) in
+    let counted = accepted-so _ (check .check .ensures) (known .checked2 .given .1) in
     prints-so 512 (omega (arith, check .before .if1 .left))
-    (accepted-prints _ kept (answer-prints (c .unrefused2 .ensures) (put .put-accepted .ensures)))
+    (accepted-prints _ (counted .accepted .unrefused)
+    (answer-prints (c .unrefused2 .ensures) (put .put-accepted .ensures)))
 
 pub fit-spec : {M : Type 1} → statement M
 fit-spec =

@@ -1,5 +1,4 @@
-use Rattle.sheet.proofs.Answer.{not-refused}
-use Rattle.report.proofs.Fitting.{entered, accepted-put}
+use Rattle.report.proofs.Fitting.{accepted-put}
 use denote.Ref.{now}
 use native.Mathlib.Omega.{arith}
 use borrow.Author.Needs.{needs}
@@ -19,21 +18,21 @@ put-machines-requires : tie.Need-put-machines-requires
 put-machines-requires c κs =
     let line = c .before .before .before in
     let pre = line .before .before .before .before .before .before .pre in
-    let few = not-refused _ (pre .0 .admitted) .ranged .filled .entered .laid .machines in
-    (pre .0, pre .1, omega (arith, pre .1, few, pre .2, line .put-line .ensures .0 .size, line .put-line .ensures .1))
+    let few = pre .0 .accepted .ranged .filled .entered .laid .machines in
+    (pre .0, omega (arith, pre .0 .count, few, pre .1, line .put-line .ensures .0 .size, line .put-line .ensures .1))
 
 put-verdict-requires : tie.Need-put-verdict-requires
 put-verdict-requires c κs =
     let lines = c .before .before .before in
     let line = lines .before .before .before .before in
     let pre = line .before .before .before .before .before .before .pre in
-    let few = not-refused _ (pre .0 .admitted) .ranged .filled .entered .laid .machines in (
-      pre .0 .admitted,
+    let few = pre .0 .accepted .ranged .filled .entered .laid .machines in (
+      pre .0 .accepted,
       omega (
         arith,
-        pre .1,
+        pre .0 .count,
         few,
-        pre .2,
+        pre .1,
         line .put-line .ensures .0 .size,
         line .put-line .ensures .1,
         lines .put-machines .ensures .0 .size,
@@ -50,7 +49,7 @@ returns c =
     let lines = last .before .before .before .before in
     let line = lines .before .before .before .before in
     let start = line .before .before .before .before .before .before in
-    accepted-put (now (start .args .sheet)) (start .pre .0) (start .pre .1) (line .put-line .ensures .0)
+    accepted-put (now (start .args .sheet)) (start .pre .0) (line .put-line .ensures .0)
     (lines .put-machines .ensures .0) (last .put-verdict .ensures)
 
 pub put-accepted-spec : {M : Type 1} → statement M

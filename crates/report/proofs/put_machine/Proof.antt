@@ -1,26 +1,26 @@
-use Rattle.report.proofs.Fitting.{entered, machine-put}
+use Rattle.report.proofs.Fitting.{machine-put}
 use native.Mathlib.Omega.{arith}
 use borrow.Author.Needs.{needs}
 use Rattle.report.proofs.put_machine.Statement.{statement}
 use Rattle.report.proofs.put_machine.Tie as tie
 
 states-requires : tie.Need-states-requires
-states-requires c κs = let start = c .before .before in (entered (start .pre .0) (start .pre .1) .laid, start .pre .1)
+states-requires c κs = let start = c .before .before in (start .pre .0 .accepted .ranged .filled .entered .laid, start .pre .1)
 
 cast-states : tie.Need-cast-states
 cast-states c =
     let start = c .before .before .before in
-    omega (arith, c .states .ensures, entered (start .pre .0) (start .pre .1) .states _ (start .pre .1))
+    omega (arith, c .states .ensures, start .pre .0 .accepted .ranged .filled .entered .states _ (start .pre .1))
 
 action-count-requires : tie.Need-action-count-requires
 action-count-requires c κs =
     let start = c .before .before .before in
-    (entered (start .pre .0) (start .pre .1) .laid, start .pre .1)
+    (start .pre .0 .accepted .ranged .filled .entered .laid, start .pre .1)
 
 cast-actions : tie.Need-cast-actions
 cast-actions c =
     let start = c .before .before .before .before in
-    omega (arith, c .action-count .ensures, entered (start .pre .0) (start .pre .1) .actions _ (start .pre .1))
+    omega (arith, c .action-count .ensures, start .pre .0 .accepted .ranged .filled .entered .actions _ (start .pre .1))
 
 whole-request-requires : tie.Need-whole-request-requires
 whole-request-requires c κs = search needs
@@ -28,7 +28,7 @@ whole-request-requires c κs = search needs
 cast-t12 : tie.Need-cast-t12
 cast-t12 c =
     let start = c .before .before .before .before .before in
-    omega (arith, start .pre .1, entered (start .pre .0) (start .pre .1) .laid .machines)
+    omega (arith, start .pre .1, start .pre .0 .accepted .ranged .filled .entered .laid .machines)
 
 slice-aggregate-put-line : tie.Need-slice-aggregate-put-line
 slice-aggregate-put-line c = search needs

@@ -20,7 +20,7 @@ loop-holds : tie.Need-loop-holds Inv-loop μ-loop
 loop-holds c =
     let start = c .before .before in
     let args = start .args in
-    let begun = machines-begin (now (args .sheet)) (now (args .out)) (args .at) (omega (arith, start .pre .2)) in
+    let begun = machines-begin (now (args .sheet)) (now (args .out)) (args .at) (omega (arith, start .pre .1)) in
     (omega arith, omega arith, begun)
 
 put-machine-requires : tie.Need-put-machine-requires Inv-loop μ-loop
@@ -28,9 +28,9 @@ put-machine-requires c κs =
     let loop = c .before .before in
     let start = loop .before .before .before in
     let left = c .before .loop-test .taken in (
-      start .pre .0,
-      omega (arith, start .pre .1, left),
-      omega (arith, start .pre .2, loop .loop .inv .1, loop .loop .inv .2 .size, left),
+      rw (start .pre .0 .count) at (start .pre .0),
+      omega (arith, start .pre .0 .count, left),
+      omega (arith, start .pre .1, loop .loop .inv .1, loop .loop .inv .2 .size, left),
     )
 
 add-k : tie.Need-add-k Inv-loop μ-loop

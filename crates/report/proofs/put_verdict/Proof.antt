@@ -57,7 +57,7 @@ returns c =
     let judge = matched .before in
     let start = judge .before .before .before in
     let fits = ap paper (sym (put .before .before .before .enum-told .given .1)) in
-    verdict-put _ (start .pre .0) (judge .judge .result) (judge .judge .ensures .0) Fits fits (put .put-bytes .ensures)
+    verdict-put _ (start .pre .0 .unrefused) (judge .judge .result) (judge .judge .ensures .0) Fits fits (put .put-bytes .ensures)
 
 same-length-2 : tie.Need-same-length-2
 same-length-2 c = search needs
@@ -69,7 +69,7 @@ returns-2 c =
     let judge = known .before .before in
     let start = judge .before .before .before in
     let late = ap paper (sym (known .judged .given .1)) in
-    verdict-put _ (start .pre .0) (judge .judge .result) (judge .judge .ensures .0) (Late _ _ _ _) late
+    verdict-put _ (start .pre .0 .unrefused) (judge .judge .result) (judge .judge .ensures .0) (Late _ _ _ _) late
     (put .put-line .ensures .0)
 
 same-length-3 : tie.Need-same-length-3
@@ -82,14 +82,14 @@ returns-3 c =
     let judge = known .before .before in
     let start = judge .before .before .before in
     let opened = ap paper (sym (known .judged2 .given .1)) in
-    verdict-put _ (start .pre .0) (judge .judge .result) (judge .judge .ensures .0) (Open _ _) opened
+    verdict-put _ (start .pre .0 .unrefused) (judge .judge .result) (judge .judge .ensures .0) (Open _ _) opened
     (put .put-line2 .ensures .0)
 
 returns-4 : tie.Need-returns-4
 returns-4 c =
     let judge = c .before .before in
     let start = judge .before .before .before in
-    verdict-never _ (start .pre .0) (judge .judge .result) (judge .judge .ensures .0) (c .enum-told2 .given .1)
+    verdict-never _ (start .pre .0 .unrefused) (judge .judge .result) (judge .judge .ensures .0) (c .enum-told2 .given .1)
 
 pub put-verdict-spec : {M : Type 1} → statement M
 put-verdict-spec =

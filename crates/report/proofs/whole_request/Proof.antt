@@ -1,5 +1,4 @@
 use Rattle.report.proofs.Fitting.{whole-value, whole-never}
-use Rattle.sheet.proofs.Answer.{not-refused}
 use native.Mathlib.Omega.{arith}
 use borrow.Author.Needs.{needs}
 use Rattle.report.proofs.whole_request.Statement.{statement}
@@ -8,7 +7,7 @@ use Rattle.report.proofs.whole_request.Tie as tie
 cast-request : tie.Need-cast-request
 cast-request c =
     let pre = c .before .pre in
-    omega (arith, pre .1, not-refused _ (pre .0 .admitted) .ranged .filled .entered .laid .machines)
+    omega (arith, pre .1, pre .0 .accepted .ranged .filled .entered .laid .machines)
 
 request-requires : tie.Need-request-requires
 request-requires c κs = search needs

@@ -1,6 +1,6 @@
 use Rattle.verdict.proofs.Answer.{reply-refused, reply-given, given-safe}
 use Rattle.verdict.specs.Inside.{found}
-use Rattle.sheet.proofs.Answer.{refused-so, accepted-so, not-refused}
+use Rattle.sheet.proofs.Answer.{refused-so, accepted-so}
 use native.Mathlib.Omega.{arith}
 use mathlib.Core.Path.{_≡_, sym, _∙_, ap}
 use Prim.Native.Nat.{ℕ}
@@ -25,8 +25,7 @@ cast-walked-2 c = search needs
 
 walked-requires : tie.Need-walked-requires
 walked-requires c κs =
-    let (none, machines, h) = accepted-so _ (c .before .before .before .check .ensures) (c .before .checked2 .given .1) in
-    record { accepted = not-refused _ none; count = machines; period = h }
+    accepted-so _ (c .before .before .before .check .ensures) (c .before .checked2 .given .1)
 
 enum-told : tie.Need-enum-told
 enum-told c = search needs
@@ -46,23 +45,23 @@ returns c = (
 returns-2 : tie.Need-returns-2
 returns-2 c =
     let told = c .before .before .before in
-    let (none, machines, h) = accepted-so _ (told .before .before .before .check .ensures) (told .before .checked2 .given .1) in
+    let counted = accepted-so _ (told .before .before .before .check .ensures) (told .before .checked2 .given .1) in
     let nothing = sym (ap found (c .enum-told .given .1)) ∙ c .before .before .walked .ensures in
-    (reply-given _ none nothing, λ e. given-safe _ none nothing)
+    (reply-given _ (counted .accepted .unrefused) nothing, λ e. given-safe _ (counted .accepted .unrefused) nothing)
 
 returns-3 : tie.Need-returns-3
 returns-3 c =
     let walk = c .before .before .before in
     let told = walk .before in
-    let (none, machines, h) = accepted-so _ (told .before .before .before .check .ensures) (told .before .checked2 .given .1) in
-    (reply-given _ none (sym (ap found (c .before .given .given .1)) ∙ walk .walked .ensures), λ e. absurd (let z : _≡_ {A = ℕ} 0 1 = cc in omega arith))
+    let counted = accepted-so _ (told .before .before .before .check .ensures) (told .before .checked2 .given .1) in
+    (reply-given _ (counted .accepted .unrefused) (sym (ap found (c .before .given .given .1)) ∙ walk .walked .ensures), λ e. absurd (let z : _≡_ {A = ℕ} 0 1 = cc in omega arith))
 
 returns-4 : tie.Need-returns-4
 returns-4 c =
     let walk = c .before .before .before in
     let told = walk .before in
-    let (none, machines, h) = accepted-so _ (told .before .before .before .check .ensures) (told .before .checked2 .given .1) in
-    (reply-given _ none (sym (ap found (c .before .given2 .given .1)) ∙ walk .walked .ensures), λ e. absurd (let z : _≡_ {A = ℕ} 0 1 = cc in omega arith))
+    let counted = accepted-so _ (told .before .before .before .check .ensures) (told .before .checked2 .given .1) in
+    (reply-given _ (counted .accepted .unrefused) (sym (ap found (c .before .given2 .given .1)) ∙ walk .walked .ensures), λ e. absurd (let z : _≡_ {A = ℕ} 0 1 = cc in omega arith))
 
 pub judge-spec : {M : Type 1} → statement M
 judge-spec =

@@ -23,8 +23,8 @@ placeless-requires c κs = search needs
 returns : tie.Need-returns
 returns c =
     let told = c .before .before .before in
-    let (none, machines, h) = accepted-so _ (told .before .before .check .ensures) (told .checked2 .given .1) in
-    ap some (c .placeless .ensures) ∙ sym (question-machine _ _ _ _ none (omega (arith, c .before .if1 .taken)))
+    let counted = accepted-so _ (told .before .before .check .ensures) (told .checked2 .given .1) in
+    ap some (c .placeless .ensures) ∙ sym (question-machine _ _ _ _ (counted .accepted .unrefused) (omega (arith, counted .count, c .before .if1 .taken)))
 
 in-range-requires : tie.Need-in-range-requires
 in-range-requires c κs = search needs
@@ -35,9 +35,9 @@ placeless-requires-2 c κs = search needs
 returns-2 : tie.Need-returns-2
 returns-2 c =
     let told = c .before .before .before .before .before in
-    let (none, machines, h) = accepted-so _ (told .before .before .check .ensures) (told .checked2 .given .1) in
+    let counted = accepted-so _ (told .before .before .check .ensures) (told .checked2 .given .1) in
     ap some (c .placeless2 .ensures)
-    ∙ sym (question-window _ _ _ _ none (omega (arith, c .before .before .before .if1 .left))
+    ∙ sym (question-window _ _ _ _ (counted .accepted .unrefused) (omega (arith, counted .count, c .before .before .before .if1 .left))
     (sym (c .before .before .in-range .ensures) ∙ not-true _ (c .before .if2 .taken)))
 
 returns-3 : tie.Need-returns-3
@@ -48,8 +48,8 @@ returns-3 c =
 returns-4 : tie.Need-returns-4
 returns-4 c =
     let told = c .before .before .before .before in
-    let (none, machines, h) = accepted-so _ (told .before .before .check .ensures) (told .checked2 .given .1) in
-    sym (question-kept _ _ _ _ none (omega (arith, c .before .before .if1 .left))
+    let counted = accepted-so _ (told .before .before .check .ensures) (told .checked2 .given .1) in
+    sym (question-kept _ _ _ _ (counted .accepted .unrefused) (omega (arith, counted .count, c .before .before .if1 .left))
     (sym (c .before .in-range .ensures) ∙ not-false _ (c .if2 .left)))
 
 pub question-spec : {M : Type 1} → statement M
