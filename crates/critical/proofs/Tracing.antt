@@ -135,8 +135,8 @@ module _ {m : Machine} (closed : Closed m) {s n k mask left number j : ℕ} {lea
         let may : may? m (s + k) j ≡ true = both-true _ _ (first .found (s + k) (tick .marks) known) .0 in
         rw leads (closed-onward closed j known (both-true (begins? m (actionOf m j .source)) _ may .0))
 
-    pub tracing-takes : {new : List ℕ} → new ≡ set (set pairs (2 * number) j) (2 * number + 1) (s + k) → n ≤ longestWindow
-        → Tracing m s n (k + 1) (State sink) (left - own) (number + 1) new
+    pub tracing-takes : {new : List ℕ} → new ≡ set (set pairs (2 * number) j) (2 * number + 1) (s + k)
+        → n ≤ longestWindow → Tracing m s n (k + 1) (State sink) (left - own) (number + 1) new
     unfolding wordsOf
     tracing-takes {new} e short =
         record {

@@ -1,10 +1,9 @@
 -- What the theorems ask of a sheet's machines holds of every sheet that keeps to the sizes.
 -- Assumes nothing.
-use Prim.Native.Nat.{ℕ, _≤_, _<_, _%_}
+use Prim.Native.Nat.{ℕ, _<_, _%_}
 use mathlib.Core.Path.{_≡_, refl}
 use mathlib.Core.List.{List}
 use native.Mathlib.Omega.{arith}
-use lib.ListN.{length}
 use Rattle.model.specs.Machine.{Machine, count, actionOf, machineOf, divisor, hyperperiod}
 use Rattle.model.specs.Sizes.{Between, MachineSizes, Sizes}
 use Rattle.model.specs.Legal.{MayBegin, cost}

@@ -3,14 +3,14 @@
 -- with them.
 -- Assumes nothing.
 use Prim.Native.Nat.{ℕ, _+_, _-_, _/_, _%_, _≤_, _<_, _∣_}
-use mathlib.Core.Path.{_≡_, refl}
+use mathlib.Core.Path.{_≡_}
 use mathlib.Core.Bool.{true, false}
 use mathlib.Core.List.{List}
 use mathlib.Core.Logic.{_↔_, ⊎-elim, Iff·trans, Iff·symm}
 use native.Mathlib.Omega.{arith}
 use native.Mathlib.Nat.{div-add-mod', dvd-mul-left, mod-eq-zero-of-dvd, dvd-of-mod-eq-zero}
 use native.Mathlib.Nat.{dvd-add-iff-left, dvd-sub, dvd-trans, le-of-dvd}
-use lib.Dec.{eqb, ltb}
+use lib.Dec.{eqb}
 use borrow.Author.Tests.{eq-eqb, eqb-true, lt-ltb, ltb-true}
 use Rattle.number.proofs.Divide.{gcdOf-is, lcmOf-is}
 use Rattle.model.specs.Machine.{Machine, count, actionOf, machineOf, periods, divisor, allPeriods, hyperperiod}

@@ -2,14 +2,14 @@
 -- Assumes nothing.
 use Prim.Native.Nat.{ℕ, zero, suc, _+_, _≤_, _<_}
 use mathlib.Core.Path.{_≡_, refl, sym, _∙_, ap}
-use mathlib.Core.List.{List, [], _∷_, _++_, map}
+use mathlib.Core.List.{List, [], _∷_, map}
 use native.Mathlib.Omega.{arith}
 use native.Mathlib.Numerals.{add-one}
 use native.Mathlib.Nat.{not-suc-le-zero, le-of-suc-le-suc}
 use lib.ListN.{length, getD, drop, drop-of-length-le, length-map}
 use lib.Seq.{drop-cons}
 use Rattle.number.specs.Divide.{Each, fold, gcd, lcm}
-use Rattle.number.proofs.Divide.{fold-append, lcms-positive, lcms-rises}
+use Rattle.number.proofs.Divide.{fold-append, lcms-rises}
 use Rattle.number.proofs.Each.{each-append, each-drop}
 use Rattle.model.specs.Machine.{Action, Machine, count, actionOf, machineOf, periods, divisor, allPeriods, hyperperiod}
 

@@ -1,6 +1,6 @@
 -- What only inner functions and the laws between them speak of: nothing here is needed to read a public contract.
--- In order: what the laws ask of a machine and of a window; rows of figures from the front, and the demand of each length
--- from them; rows from the back, for the critical sequence; the plain reckoner.
+-- In order: what the laws ask of a machine and of a window; rows of figures from the front, and the demand of each
+-- length from them; rows from the back, for the critical sequence; the plain reckoner.
 use Prim.Native.Nat.{ℕ, zero, suc, _+_, _≤_, _<_, max}
 use mathlib.Core.Path.{_≡_}
 use mathlib.Core.Bool.{Bool, true, cond, _&&_}

@@ -1,5 +1,5 @@
--- Document 01, "The sheet": the sizes that rules 3 and 5 to 9 hold a sheet's machines to. Theorems about every sheet ask
--- for them, and every accepted sheet has them; no public contract cites them.
+-- Document 01, "The sheet": the sizes that rules 3 and 5 to 9 hold a sheet's machines to. Theorems about every sheet
+-- ask for them, and every accepted sheet has them; no public contract cites them.
 use Prim.Native.Nat.{ℕ, _≤_, _<_}
 use mathlib.Core.List.{List}
 use lib.ListN.{length}

@@ -3,7 +3,7 @@
 use Prim.Native.Nat.{ℕ, zero, suc, _+_, _-_, _*_, _/_, _%_, _≤_, _<_, _∣_}
 use mathlib.Core.Path.{_≡_, refl, sym, _∙_, ap, subst}
 use mathlib.Core.List.{List, [], _∷_, _++_}
-use native.Mathlib.Nat.{mod-lt, zero-lt-suc, le-refl, le-trans, not-suc-le-zero, mod-def, le-of-dvd}
+use native.Mathlib.Nat.{mod-lt, zero-lt-suc, le-refl, not-suc-le-zero, mod-def, le-of-dvd}
 use native.Mathlib.Nat.{dvd-refl, dvd-zero, dvd-trans, dvd-mod-iff, dvd-mul-left, mul-dvd-mul, mul-dvd-mul-left, dvd-of-mul-dvd-mul-right, pos-of-dvd-of-pos, one-dvd}
 use native.Mathlib.Nat.{mul-assoc, mul-comm, mul-sub, mul-zero, zero-mul, mul-pos, mul-right-comm, mul-div-mul-left, div-mul-cancel}
 use native.Mathlib.Omega.{arith}

@@ -26,7 +26,8 @@ use Rattle.sheet.proofs.Tests.{same-test}
 use Rattle.window.specs.Window.{questionRefusal}
 use Rattle.bounds.specs.Table.{requestTable, tableRefusal, tableReply, withTable, tableWords}
 use Rattle.bounds.proofs.Filling.{listed-length}
-use Rattle.critical.specs.Critical.{longestWords, sequenceOf, wordsOf, criticalRefusal, criticalReply, criticalWords, pairsIn}
+use Rattle.critical.specs.Critical.{sequenceOf, wordsOf, criticalRefusal, criticalReply, criticalWords}
+use Rattle.critical.specs.Critical.{longestWords, pairsIn}
 use Rattle.critical.proofs.Words.{words-pairs}
 use Rattle.text.specs.declared.Printed.{Printed}
 use Rattle.text.specs.Text.{row, readNumber}

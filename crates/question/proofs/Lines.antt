@@ -9,10 +9,10 @@ use lib.ListN.{length, getD, take, drop}
 use lib.Seq.{take-suc, take-all, getD-drop}
 use Rattle.model.specs.Legal.{Pair}
 use Rattle.model.specs.Reckon.{pair}
+use Rattle.critical.specs.Critical.{pairsIn}
 use Rattle.text.specs.Inside.{Put}
 use Rattle.text.specs.Text.{row}
 use Rattle.text.proofs.Laws.{put-then, put-nothing}
-use Rattle.critical.specs.Critical.{pairsIn}
 use Rattle.question.specs.Ask.{numberLines, pairLines}
 
 numbers-append : (ns ms : List ℕ) → numberLines (ns ++ ms) ≡ numberLines ns ++ numberLines ms

@@ -13,8 +13,8 @@ use Rattle.sheet.specs.Format.{decode}
 use Rattle.sheet.specs.Rules.{same}
 use Rattle.bounds.specs.Bounds.{requestReply, demandReply}
 use Rattle.bounds.specs.Table.{requestTable, tableReply}
-use Rattle.critical.specs.Critical.{longestWords, sequenceOf, criticalReply}
 use Rattle.plain.specs.Plain.{plainReply}
+use Rattle.critical.specs.Critical.{longestWords, sequenceOf, criticalReply}
 use Rattle.text.specs.Text.{ascii, row, readNumber}
 use Rattle.text.specs.Lent.{refusedLine}
 use Rattle.question.specs.declared.Kind.{Kind}

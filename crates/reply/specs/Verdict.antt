@@ -1,5 +1,5 @@
--- The paper's number and values for each answer of `judge`: Fits has no number in the table and no figures, Late has its
--- four, Open is 13, with machine and start.
+-- The paper's number and values for each answer of `judge`: Fits has no number in the table and no figures, Late has
+-- its four, Open is 13, with machine and start.
 use mathlib.Core.List.{[], _∷_}
 use Rattle.reply.specs.declared.Verdict.{Verdict}
 use Rattle.reply.specs.declared.Verdict.the-variants.{Fits, Late, Open, Refused}

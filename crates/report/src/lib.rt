@@ -14,7 +14,6 @@ ghost use Rattle.report.specs.Fit.{machineLine, machineLines, verdictLin
 use reply::Answer;
 use reply::Checked;
 use reply::Verdict;
-use sheet::read;
 use text::Printed;
 
 // The request bound of [0, H) of a machine.
@@ -32,12 +31,14 @@ fn whole_request(sheet: &[u8], machine: usize, h: u32) -> u32
 
 // The line of a machine.
 fn put_machine(out: &mut [u8], at: usize, sheet: &[u8], machine: usize, h: u32) -> usize
-    requires { ⌜ Counted (now sheet) (machineCount (now sheet)) h × (machine < machineCount (now sheet)) × (at + 46 ≤ length (now out)) ⌝ }
+    requires { ⌜ Counted (now sheet) (machineCount (now sheet)) h × (machine < machineCount (now sheet))
+        × (at + 46 ≤ length (now out)) ⌝ }
     ensures { λ r. ⌜ Put (now (out .entry)) at (machineLine (decode (now (sheet .entry))) machine) r (now (out .exit))
         × (r ≤ at + 46) ⌝ }
 {
-    let states = read::states(sheet, machine) as u32;
-    let actions = read::action_count(sheet, machine) as u32;
+    let entry = sheet::entry_of(sheet, machine);
+    let states = entry.states as u32;
+    let actions = entry.actions as u32;
     let bound = whole_request(sheet, machine, h);
     let numbers = [machine as u32, states, actions, bound];
     text::put_line(out, at, b"M", &numbers)

@@ -13,17 +13,17 @@ use Rattle.model.specs.Limits.{longestPeriod, longestTime, longestHyperperiod}
 use Rattle.model.specs.Machine.{Action, Machine, count, actionOf, machineOf, divisor, hyperperiod}
 use Rattle.model.specs.Sizes.{Between, ActionSizes, MachineSizes, Sizes}
 use Rattle.model.proofs.Sizes.{hyperperiod-positive}
-use Rattle.sheet.specs.Format.{actionSize, entrySize, entry, trailerOffset, machineCount, decode}
+use Rattle.model.specs.Search.{firstOf}
+use Rattle.model.proofs.Search.{first-none}
 use Rattle.reply.specs.Reply.{refusal}
+use Rattle.reply.proofs.Refusals.{unless-none, orElse-none}
+use Rattle.sheet.specs.Format.{actionSize, entrySize, entry, trailerOffset, machineCount, decode}
 use Rattle.sheet.specs.Rules.{rule1, rule3, rule4, rule5, rule6, rule7, rule8, rule9}
 use Rattle.sheet.specs.Rules.{actionsBefore, between, trailerInRange, entryInRange, actionInRange, deadlineInRange}
 use Rattle.sheet.specs.Rules.{entryRefusal, offsetRefusal, endRefusal, actionRefusal, machineRefusal}
 use Rattle.sheet.specs.Check.{refusalOf}
 use Rattle.sheet.specs.Inside.{Laid, Entered, Filled, Ranged, Accepted}
-use Rattle.model.specs.Search.{firstOf}
-use Rattle.model.proofs.Search.{first-none}
 use Rattle.sheet.proofs.Decode.{decode-count, decode-machine, decode-actions}
-use Rattle.reply.proofs.Refusals.{unless-none, orElse-none}
 use Rattle.sheet.proofs.Tests.{both, between-true}
 
 module _ (b : List ℕ) where

@@ -11,14 +11,14 @@ use Rattle.model.specs.Machine.{hyperperiod}
 use Rattle.reply.specs.declared.Checked.{Checked}
 use Rattle.reply.specs.declared.Checked.the-variants.{Accepted, Refused}
 use Rattle.reply.specs.declared.Refusal.{Refusal}
-use Rattle.sheet.specs.Format.{machineCount, decode}
-use Rattle.reply.specs.Reply.{Reply, answer, refusal, refused, unless, _orElse_, _otherwise_}
+use Rattle.reply.specs.Reply.{answer, refusal, refused, unless, _orElse_, _otherwise_}
 use Rattle.reply.specs.Checked.{paper}
+use Rattle.reply.proofs.Refusals.{orElse-assoc, orElse-none, orElse-found, orElse-clear}
+use Rattle.reply.proofs.Unique.{checked-unique}
+use Rattle.sheet.specs.Format.{machineCount, decode}
 use Rattle.sheet.specs.Rules.{rule1, rule2, rule3, rule4, rule5, rule6, rule7, rule8, rule9}
 use Rattle.sheet.specs.Check.{refusalOf, checkReply}
 use Rattle.sheet.specs.Inside.{trailerRules, firstRules, Laid, Ranged, Counted, Accepted as IsAccepted}
-use Rattle.reply.proofs.Refusals.{orElse-assoc, orElse-none, orElse-found, orElse-clear}
-use Rattle.reply.proofs.Unique.{checked-unique}
 use Rattle.sheet.proofs.Accepted.{laid, entered, filled, ranged, accepted}
 
 module _ (b : List ℕ) where

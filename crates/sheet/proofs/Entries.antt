@@ -4,8 +4,8 @@ use Prim.Native.Nat.{ℕ, _+_, _*_, _<_}
 use mathlib.Core.Path.{sym, _∙_, ap}
 use mathlib.Core.List.{List}
 use native.Mathlib.Omega.{arith}
-use Rattle.model.specs.Machine.{count, machineOf, periods, allPeriods}
 use Rattle.number.specs.Divide.{Each}
+use Rattle.model.specs.Machine.{count, machineOf, periods, allPeriods}
 use Rattle.model.specs.Sizes.{MachineSizes}
 use Rattle.model.proofs.Periods.{periods-each, all-periods-each}
 use Rattle.model.proofs.Sizes.{has-actions}

@@ -1,7 +1,7 @@
 -- The tests of rules 1 to 8, as the code reckons them and as facts.
 -- Assumes nothing.
-use Prim.Native.Nat.{ℕ, zero, suc, _+_, _-_, _*_, _≤_, _<_}
-use mathlib.Core.Path.{_≡_, refl, sym, _∙_, ap, ap₂, subst}
+use Prim.Native.Nat.{ℕ, _+_, _-_, _*_, _≤_, _<_}
+use mathlib.Core.Path.{_≡_, refl, sym, _∙_, ap, ap₂}
 use mathlib.Core.Bool.{Bool, true, false, _&&_, false≢true}
 use mathlib.Core.List.{List, [], _∷_}
 use mathlib.Core.Option.{none, some}
@@ -14,11 +14,11 @@ use borrow.Author.Tests.{leb-true, eqb-true, eq-eqb, ne-eqb}
 use Rattle.model.specs.Limits.{longestPeriod, longestTime}
 use Rattle.model.specs.Machine.{Action, Machine, count, machineOf, divisor}
 use Rattle.model.specs.Sizes.{Between}
+use Rattle.reply.specs.Reply.{refusal}
+use Rattle.reply.proofs.Refusals.{equal-broken, equal-kept}
 use Rattle.sheet.specs.Format.{actionSize, entry, trailerOffset, machineCount, lastFour, mark, decode}
 use Rattle.sheet.specs.Rules.{between, same, entryInRange, actionsBefore, endRefusal}
-use Rattle.reply.specs.Reply.{refusal}
 use Rattle.sheet.specs.Inside.{keeps}
-use Rattle.reply.proofs.Refusals.{equal-broken, equal-kept}
 use Rattle.sheet.proofs.Decode.{decode-machine, decode-actions}
 
 pub both : (a b : Bool) → a && b ≡ true → (a ≡ true) × (b ≡ true)

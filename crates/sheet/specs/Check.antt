@@ -1,11 +1,11 @@
 -- Document 01, "Numbered replies": rules 1 to 9 are tried in that order; a sheet that breaks none is accepted.
 use Prim.Native.Nat.{ℕ}
 use mathlib.Core.List.{List, [], _∷_}
-use mathlib.Core.Option.{Option, none, some}
+use mathlib.Core.Option.{Option, none}
 use Rattle.model.specs.Machine.{hyperperiod}
 use Rattle.reply.specs.declared.Refusal.{Refusal}
-use Rattle.sheet.specs.Format.{machineCount, decode}
 use Rattle.reply.specs.Reply.{Reply, answer, _orElse_, _otherwise_}
+use Rattle.sheet.specs.Format.{machineCount, decode}
 use Rattle.sheet.specs.Rules.{rule1, rule2, rule3, rule4, rule5, rule6, rule7, rule8, rule9}
 
 -- the refusal under rules 1 to 9, if there is one

@@ -33,7 +33,7 @@ entryAt b at =
       offset = le32 b (at + 4);
     }
 
--- the trailer, the last 12 bytes: offset of the first machine entry (4), number of machines (4), the four bytes 53 46 53 31
+-- the trailer, the last 12 bytes: offset of the first machine entry (4), number of machines (4), the bytes 53 46 53 31
 abbrev pub trailerOffset : List ℕ → ℕ
 trailerOffset b = le32 b (length b - 12)
 

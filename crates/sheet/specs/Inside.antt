@@ -10,12 +10,12 @@ use Rattle.model.specs.Limits.{longestPeriod, longestHyperperiod}
 use Rattle.model.specs.Machine.{Action, Machine, count, actionOf, machineOf, hyperperiod}
 use Rattle.model.specs.Sizes.{Between, Sizes}
 use Rattle.reply.specs.declared.Refusal.{Refusal}
+use Rattle.reply.specs.Reply.{_orElse_}
 use Rattle.sheet.specs.declared.Entry.{Entry}
 use Rattle.sheet.specs.Format.{actionSize, actionAt, entrySize, entry, trailerOffset, machineCount, decode}
 use Rattle.sheet.specs.Rules.{rule1, rule2, rule3, rule4, rule5, rule6, rule7, rule8}
 use Rattle.sheet.specs.Rules.{actionsBefore, actionInRange, deadlineInRange}
 use Rattle.sheet.specs.Check.{refusalOf}
-use Rattle.reply.specs.Reply.{_orElse_}
 
 -- the refusal under rules 1 to 4, and under rules 1 to 8, if there is one
 abbrev pub trailerRules : List ℕ → Option Refusal

@@ -1,16 +1,17 @@
--- Document 01, "Numbered replies": rules 1 to 9, each over the entire sheet, with the first place at which it is broken.
+-- Document 01, "Numbered replies": rules 1 to 9, each over the entire sheet, with the first place that breaks it.
 use Prim.Native.Nat.{ℕ, zero, suc, _+_, _*_}
 use mathlib.Core.Bool.{Bool, true, false, _&&_}
 use mathlib.Core.List.{List, [], _∷_}
-use mathlib.Core.Option.{Option, none, some}
+use mathlib.Core.Option.{Option}
 use lib.Dec.{leb, ltb, eqb}
 use lib.ListN.{length}
 use Rattle.model.specs.Limits.{longestPeriod, longestTime, longestHyperperiod}
 use Rattle.model.specs.Machine.{Action, Machine, count, actionOf, machineOf, divisor, hyperperiod}
-use Rattle.sheet.specs.Format.{actionSize, entrySize, EntryBytes, entry, trailerOffset, machineCount, lastFour, mark, decode}
 use Rattle.model.specs.Search.{firstOf}
 use Rattle.reply.specs.declared.Refusal.{Refusal}
 use Rattle.reply.specs.Reply.{refusal, unless, _orElse_}
+use Rattle.sheet.specs.Format.{actionSize, entrySize, EntryBytes, entry}
+use Rattle.sheet.specs.Format.{trailerOffset, machineCount, lastFour, mark, decode}
 
 -- tests: from low to high, and the same bytes in the same order
 abbrev pub between : ℕ → ℕ → ℕ → Bool

@@ -1,16 +1,16 @@
 // The sheet: what its bytes mean, and the check that accepts it or refuses it with a number and a
-// place. Definitions: specs/Format.antt, Rules.antt, Check.antt and Reply.antt, in document 01's order.
+// place. Definitions: specs/Format.antt, Rules.antt and Check.antt, in document 01's order.
 mod meaning;
 pub mod read;
 mod rules;
 
 ghost use mathlib.Core.Path.{_≡_};
 ghost use Prim.Native.Nat.{_<_};
-ghost use Rattle.sheet.specs.Format.{machineCount};
 ghost use Rattle.reply.specs.Checked.{paper};
+ghost use Rattle.reply.specs.Inside.{found};
+ghost use Rattle.sheet.specs.Format.{machineCount};
 ghost use Rattle.sheet.specs.Check.{checkReply};
 ghost use Rattle.sheet.specs.Inside.{firstRules, Accepted, IsEntry};
-ghost use Rattle.reply.specs.Inside.{found};
 pub use meaning::cost;
 pub use meaning::divisor;
 pub use meaning::has_instant;

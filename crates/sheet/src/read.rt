@@ -9,13 +9,14 @@ ghost use Rattle.sheet.specs.Format.{entry as Format·entry};
 ghost use Rattle.sheet.specs.Inside.{Laid, Filled, machineAt, Read, HasAction, StandsAt};
 use crate::Entry;
 
-// How many bytes an action has, and a machine's entry.
+// How many bytes an action has.
 pub(crate) const ACTION_SIZE: usize = 8;
 
+// And a machine's entry.
 pub(crate) const ENTRY_SIZE: usize = 8;
 
 // The number of machines.
-pub fn machine_count(sheet: &[u8]) -> usize
+pub(crate) fn machine_count(sheet: &[u8]) -> usize
     requires { ⌜ 12 ≤ length (now sheet) ⌝ }
     ensures { λ r. ⌜ (r ≡ machineCount (now (sheet .entry))) × (r < 2 ^ 32) ⌝ }
 {
@@ -23,7 +24,7 @@ pub fn machine_count(sheet: &[u8]) -> usize
 }
 
 // The offset of the first machine entry, as the trailer has it.
-pub fn trailer_offset(sheet: &[u8]) -> usize
+pub(crate) fn trailer_offset(sheet: &[u8]) -> usize
     requires { ⌜ 12 ≤ length (now sheet) ⌝ }
     ensures { λ r. ⌜ (r ≡ trailerOffset (now (sheet .entry))) × (r < 2 ^ 32) ⌝ }
 {
@@ -48,7 +49,7 @@ fn entry_byte(sheet: &[u8], machine: usize, i: usize) -> usize
 }
 
 // How many states a machine has.
-pub fn states(sheet: &[u8], machine: usize) -> usize
+pub(crate) fn states(sheet: &[u8], machine: usize) -> usize
     requires { ⌜ Laid (now sheet) × (machine < machineCount (now sheet)) ⌝ }
     ensures { λ r. ⌜ r ≡ machineOf (decode (now (sheet .entry))) machine .states ⌝ }
 {
@@ -56,7 +57,7 @@ pub fn states(sheet: &[u8], machine: usize) -> usize
 }
 
 // A machine's initial state.
-pub fn initial(sheet: &[u8], machine: usize) -> usize
+pub(crate) fn initial(sheet: &[u8], machine: usize) -> usize
     requires { ⌜ Laid (now sheet) × (machine < machineCount (now sheet)) ⌝ }
     ensures { λ r. ⌜ r ≡ machineOf (decode (now (sheet .entry))) machine .initial ⌝ }
 {
@@ -64,7 +65,7 @@ pub fn initial(sheet: &[u8], machine: usize) -> usize
 }
 
 // How many actions a machine has.
-pub fn action_count(sheet: &[u8], machine: usize) -> usize
+pub(crate) fn action_count(sheet: &[u8], machine: usize) -> usize
     requires { ⌜ Laid (now sheet) × (machine < machineCount (now sheet)) ⌝ }
     ensures { λ r. ⌜ r ≡ count (machineOf (decode (now (sheet .entry))) machine) ⌝ }
 {
@@ -80,7 +81,7 @@ pub(crate) fn zero_byte(sheet: &[u8], machine: usize) -> usize
 }
 
 // The offset of a machine's first action.
-pub fn first_action(sheet: &[u8], machine: usize) -> usize
+pub(crate) fn first_action(sheet: &[u8], machine: usize) -> usize
     requires { ⌜ Laid (now sheet) × (machine < machineCount (now sheet)) ⌝ }
     ensures { λ r. ⌜ r ≡ Format·entry (now (sheet .entry)) machine .offset ⌝ }
 {

@@ -2,20 +2,19 @@
 -- Assumes nothing.
 use Prim.Native.Nat.{ℕ, zero, suc, _+_, _-_, _*_, _%_, _≤_, _<_, max}
 use mathlib.Core.Path.{_≡_, refl, sym, _∙_, ap, ap₂}
-use mathlib.Core.Bool.{true, false}
+use mathlib.Core.Bool.{false}
 use mathlib.Core.List.{List}
 use mathlib.Core.Option.{none, some}
 use native.Mathlib.Omega.{arith}
 use native.Mathlib.Numerals.{add-one}
 use native.Mathlib.Nat.{mod-lt, mod-eq-of-lt, mod-add-mod, add-zero}
-use lib.Dec.{leb}
 use lib.ListN.{length, getD, replicate, length-replicate, getD-replicate}
 use borrow.Author.Tests.{le-leb, lt-leb}
 use Rattle.model.specs.Limits.{longestWindow}
 use Rattle.model.specs.Machine.{machineOf, hyperperiod}
 use Rattle.model.specs.Sizes.{MachineSizes}
 use Rattle.model.specs.Reckon.{request, demand}
-use Rattle.model.specs.Verdict.{added, requests, closes, passes, gives, Late, Open}
+use Rattle.model.specs.Verdict.{added, requests, closes, gives, Late, Open}
 use Rattle.model.specs.Scan.{scan, slack}
 use Rattle.model.proofs.Bounds.{request-empty, demand-request}
 use Rattle.model.proofs.Accepted.{sizes-repeat}
@@ -24,12 +23,10 @@ use Rattle.model.proofs.Verdict.{closes-at-most}
 use Rattle.model.proofs.Scan.{scan-gives, scan-closed, scan-late, scan-next, scan-open, passes-slack}
 use Rattle.sheet.specs.Format.{machineCount, decode}
 use Rattle.sheet.proofs.Accepted.{machine-sizes}
-use Rattle.walk.specs.Inside.{Marks, Ready, DueWithin}
 use Rattle.walk.proofs.Mask.{marks-remainder}
-use Rattle.walk.proofs.Front.{row-zeros, row-ready, last-begin, last-none, last-demand}
-use Rattle.verdict.specs.declared.Line.{Line}
+use Rattle.walk.proofs.Front.{row-zeros, last-begin, last-none}
 use Rattle.verdict.specs.declared.Level.{Level}
-use Rattle.verdict.specs.Inside.{LineAt, lineOf, stride, Place, LinesAt, LevelAt, Begun, Ticking, Marked}
+use Rattle.verdict.specs.Inside.{LineAt, lineOf, stride, Place, LevelAt, Begun, Ticking, Marked}
 use Rattle.verdict.proofs.Moving.{moved-not}
 use Rattle.verdict.proofs.Half.{largestRequest, request-small, requests-small}
 

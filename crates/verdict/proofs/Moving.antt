@@ -1,19 +1,18 @@
 -- A machine's line, moved on by a tick.
 -- Assumes nothing.
-use Prim.Native.Nat.{ℕ, _+_, _<_}
+use Prim.Native.Nat.{ℕ}
 use mathlib.Core.Path.{_≡_, refl, sym, _∙_}
 use mathlib.Core.List.{List}
 use native.Mathlib.Omega.{arith}
-use lib.ListN.{length}
 use Rattle.model.specs.declared.Way.the-variants.{On}
 use Rattle.model.specs.Machine.{Machine}
 use Rattle.model.specs.Sizes.{MachineSizes}
 use Rattle.model.specs.Reckon.{most}
 use Rattle.model.specs.Inside.{figure}
-use Rattle.walk.specs.Inside.{Marks, Ready, Ticked}
+use Rattle.walk.specs.Inside.{Ready, Ticked}
 use Rattle.walk.proofs.Front.{row-ready, row-ticked, row-idle, row-top}
 use Rattle.verdict.specs.declared.Line.{Line}
-use Rattle.verdict.specs.Inside.{LineAt, Standing, Moved}
+use Rattle.verdict.specs.Inside.{Standing, Moved}
 
 module _ {m : Machine} (sizes : MachineSizes m) where
   pub standing-ready : {mask : ℕ} {line : Line} → Standing m mask line → Ready m mask (line .row)

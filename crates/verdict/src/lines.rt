@@ -1,5 +1,4 @@
 // The machines of a level, moved on tick by tick.
-ghost use mathlib.Core.Path.{_≡_};
 ghost use Prim.Native.Nat.{_<_};
 ghost use Rattle.model.specs.Machine.{machineOf};
 ghost use Rattle.sheet.specs.Format.{machineCount, decode};

@@ -74,7 +74,8 @@ module _ (m : Machine) (k : ℕ) (row : List ℕ) (rest most : ℕ) where
   pub due-late : rest < actionOf m k .deadline → most ≡ dueOr m k row rest most
   due-late l = rw (lt-leb (actionOf m k .deadline) rest l) (omega arith)
 
-  pub due-more : actionOf m k .deadline ≤ rest → most < brought On m k row → brought On m k row ≡ dueOr m k row rest most
+  pub due-more : actionOf m k .deadline ≤ rest → most < brought On m k row
+      → brought On m k row ≡ dueOr m k row rest most
   due-more l h = rw (le-leb (actionOf m k .deadline) rest l) (omega arith)
 
   pub due-less : actionOf m k .deadline ≤ rest → brought On m k row ≤ most → most ≡ dueOr m k row rest most

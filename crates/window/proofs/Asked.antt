@@ -8,11 +8,11 @@ use mathlib.Core.Option.{none, some}
 use native.Mathlib.Omega.{arith}
 use lib.Dec.{leb}
 use borrow.Author.Tests.{leb-true, lt-ltb, le-ltb, ltb-true}
+use Rattle.model.specs.Limits.{longestWindow, lastTick}
+use Rattle.model.specs.Inside.{InRange}
 use Rattle.reply.specs.declared.Refusal.{Refusal}
 use Rattle.reply.specs.Reply.{refusal, unless}
 use Rattle.reply.proofs.Refusals.{unless-none, orElse-none, orElse-found, orElse-clear}
-use Rattle.model.specs.Limits.{longestWindow, lastTick}
-use Rattle.model.specs.Inside.{InRange}
 use Rattle.sheet.specs.Format.{machineCount}
 use Rattle.sheet.specs.Check.{refusalOf}
 use Rattle.sheet.proofs.Tests.{both}

@@ -4,9 +4,9 @@ use mathlib.Core.Bool.{Bool, _&&_}
 use mathlib.Core.List.{List}
 use mathlib.Core.Option.{Option}
 use lib.Dec.{leb, ltb}
+use Rattle.model.specs.Limits.{longestWindow, lastTick}
 use Rattle.reply.specs.declared.Refusal.{Refusal}
 use Rattle.reply.specs.Reply.{refusal, unless, _orElse_}
-use Rattle.model.specs.Limits.{longestWindow, lastTick}
 use Rattle.sheet.specs.Format.{machineCount}
 use Rattle.sheet.specs.Check.{refusalOf}
 

@@ -25,7 +25,8 @@ returns : tie.Need-returns
 returns c =
     let start = c .before .before .before .before .before .before .args in
     let (same, entry) = c .before .before .before .before .entry-of .ensures in
-    row-top (entry-sizes entry) (c .before .before .before .walk-to .ensures .row) (entry .read .states) (c .top .ensures)
+    let row = c .before .before .before .walk-to .ensures .row in
+    row-top (entry-sizes entry) row (entry .read .states) (c .top .ensures)
     ∙ ap (λ (i : ℕ). request (machineOf (decode (start .sheet .now)) i) (start .from) (start .length)) same
 
 pub request-of-spec : {M : Type 1} → statement M

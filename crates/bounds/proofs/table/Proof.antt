@@ -1,5 +1,5 @@
 use Prim.Native.Nat.{_+_}
-use mathlib.Core.Path.{_≡_, refl, sym, _∙_, ap}
+use mathlib.Core.Path.{_≡_, sym, _∙_, ap}
 use mathlib.Core.Option.{none}
 use native.Mathlib.Omega.{arith}
 use Rattle.reply.specs.Inside.{found}

@@ -1,5 +1,4 @@
 use Prim.Native.Nat.{_/_}
-use mathlib.Core.Path.{ap}
 use native.Mathlib.Nat.{mul-le-mul, div-le-self}
 use native.Mathlib.Omega.{arith}
 use borrow.Author.Needs.{needs}

@@ -1,34 +1,34 @@
-use Rattle.report.proofs.Fitting.{machine-put}
+use mathlib.Core.Path.{_∙_, ap}
 use native.Mathlib.Omega.{arith}
+use Rattle.model.specs.Machine.{count, machineOf}
+use Rattle.sheet.specs.Format.{decode}
+use Rattle.sheet.proofs.Entries.{entry-sizes}
+use Rattle.report.proofs.Fitting.{machine-put}
+use Prim.Native.Nat.{ℕ}
 use borrow.Author.Needs.{needs}
 use Rattle.report.proofs.put_machine.Statement.{statement}
 use Rattle.report.proofs.put_machine.Tie as tie
 
-states-requires : tie.Need-states-requires
-states-requires c κs = let start = c .before .before in (start .pre .0 .accepted .ranged .filled .entered .laid, start .pre .1)
+entry-of-requires : tie.Need-entry-of-requires
+entry-of-requires c κs = let pre = c .before .before .pre in (pre .0 .accepted, pre .1)
 
 cast-states : tie.Need-cast-states
 cast-states c =
-    let start = c .before .before .before in
-    omega (arith, c .states .ensures, start .pre .0 .accepted .ranged .filled .entered .states _ (start .pre .1))
-
-action-count-requires : tie.Need-action-count-requires
-action-count-requires c κs =
-    let start = c .before .before .before in
-    (start .pre .0 .accepted .ranged .filled .entered .laid, start .pre .1)
+    let entry = c .before .entry-of .ensures .1 in
+    omega (arith, entry .read .states, entry-sizes entry .states .1)
 
 cast-actions : tie.Need-cast-actions
 cast-actions c =
-    let start = c .before .before .before .before in
-    omega (arith, c .action-count .ensures, start .pre .0 .accepted .ranged .filled .entered .actions _ (start .pre .1))
+    let entry = c .before .before .entry-of .ensures .1 in
+    omega (arith, entry .read .actions, entry-sizes entry .actions .1)
 
 whole-request-requires : tie.Need-whole-request-requires
 whole-request-requires c κs = search needs
 
 cast-t12 : tie.Need-cast-t12
 cast-t12 c =
-    let start = c .before .before .before .before .before in
-    omega (arith, start .pre .1, start .pre .0 .accepted .ranged .filled .entered .laid .machines)
+    let pre = c .before .before .before .before .before .before .pre in
+    omega (arith, pre .1, pre .0 .accepted .ranged .filled .entered .laid .machines)
 
 slice-aggregate-put-line : tie.Need-slice-aggregate-put-line
 slice-aggregate-put-line c = search needs
@@ -46,9 +46,14 @@ returns : tie.Need-returns
 returns c =
     let put = c .before .before in
     let bound = put .before .before .before .before in
-    let start = bound .before .before .before .before .before in (
-      machine-put (start .args .sheet .now) (start .args .machine) (bound .before .before .states .ensures)
-          (bound .before .action-count .ensures) (bound .whole-request .ensures) (put .put-line .ensures .0),
+    let read = bound .before .before .before in
+    let start = read .before .before .before .args in
+    let (same, entry) = read .entry-of .ensures in
+    let ms = decode (start .sheet .now) in (
+      machine-put (start .sheet .now) (start .machine)
+          (entry .read .states ∙ ap (λ (i : ℕ). machineOf ms i .states) same)
+          (entry .read .actions ∙ ap (λ (i : ℕ). count (machineOf ms i)) same) (bound .whole-request .ensures)
+          (put .put-line .ensures .0),
       put .put-line .ensures .1,
     )
 
@@ -56,9 +61,8 @@ pub put-machine-spec : {M : Type 1} → statement M
 put-machine-spec =
     tie.close
     (tie.spec
-    states-requires
+    entry-of-requires
     cast-states
-    action-count-requires
     cast-actions
     whole-request-requires
     cast-t12

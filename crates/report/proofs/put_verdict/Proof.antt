@@ -57,7 +57,8 @@ returns c =
     let judge = matched .before in
     let start = judge .before .before .before in
     let fits = ap paper (sym (put .before .before .before .enum-told .given .1)) in
-    verdict-put _ (start .pre .0 .unrefused) (judge .judge .result) (judge .judge .ensures .0) Fits fits (put .put-bytes .ensures)
+    verdict-put _ (start .pre .0 .unrefused) (judge .judge .result) (judge .judge .ensures .0) Fits fits
+    (put .put-bytes .ensures)
 
 same-length-2 : tie.Need-same-length-2
 same-length-2 c = search needs

@@ -1,5 +1,5 @@
 use Rattle.sheet.proofs.Answer.{check-broken, check-nine, check-accepts, first-ranged}
-use Rattle.sheet.specs.Inside.{firstRules, Ranged}
+use Rattle.sheet.specs.Inside.{firstRules}
 use Rattle.reply.specs.Inside.{found}
 use Rattle.reply.specs.Reply.{answer, refused}
 use native.Mathlib.Omega.{arith}

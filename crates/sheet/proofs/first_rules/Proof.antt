@@ -1,7 +1,7 @@
 use Rattle.sheet.proofs.Answer.{trailer-laid}
 use Rattle.sheet.proofs.Accepted.{entered, filled}
 use Rattle.reply.proofs.Refusals.{orElse-found, orElse-clear}
-use Rattle.sheet.specs.Inside.{trailerRules, firstRules, Laid, Entered, Filled}
+use Rattle.sheet.specs.Inside.{trailerRules, firstRules, Entered, Filled}
 use Rattle.reply.specs.Inside.{found}
 use Rattle.sheet.specs.Rules.{rule5, rule6, rule7, rule8}
 use Rattle.reply.specs.Reply.{_orElse_}

@@ -33,13 +33,13 @@ element-write-row c = omega (arith, inside (c .before .before .before .before))
 returns : tie.Need-returns
 returns c =
     let start = c .before .before .before .before .before .before .args in
-    pushed-more (start .way) (machineAt (start .sheet .now) (start .entry)) (start .j) (start .old .now) (start .row .now)
+    pushed-more (start .way) (machineAt (start .sheet .now) (start .entry)) _ (start .old .now) (start .row .now)
     (c .before .before .before .before .ahead .ensures) (c .before .before .brought .ensures) (c .if1 .taken)
 
 returns-2 : tie.Need-returns-2
 returns-2 c =
     let start = c .before .before .before .before .before .before .args in
-    pushed-same (start .way) (machineAt (start .sheet .now) (start .entry)) (start .j) (start .old .now) (start .row .now)
+    pushed-same (start .way) (machineAt (start .sheet .now) (start .entry)) _ (start .old .now) (start .row .now)
     (c .before .before .before .before .ahead .ensures) (c .before .before .brought .ensures) (c .if1 .left)
 
 pub push-spec : {M : Type 1} → statement M

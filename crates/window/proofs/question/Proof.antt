@@ -24,7 +24,8 @@ returns : tie.Need-returns
 returns c =
     let told = c .before .before .before in
     let counted = accepted-so _ (told .before .before .check .ensures) (told .checked2 .given .1) in
-    ap some (c .placeless .ensures) ∙ sym (question-machine _ _ _ _ (counted .accepted .unrefused) (omega (arith, counted .count, c .before .if1 .taken)))
+    ap some (c .placeless .ensures)
+    ∙ sym (question-machine _ _ _ _ (counted .accepted .unrefused) (omega (arith, counted .count, c .before .if1 .taken)))
 
 in-range-requires : tie.Need-in-range-requires
 in-range-requires c κs = search needs
@@ -37,8 +38,8 @@ returns-2 c =
     let told = c .before .before .before .before .before in
     let counted = accepted-so _ (told .before .before .check .ensures) (told .checked2 .given .1) in
     ap some (c .placeless2 .ensures)
-    ∙ sym (question-window _ _ _ _ (counted .accepted .unrefused) (omega (arith, counted .count, c .before .before .before .if1 .left))
-    (sym (c .before .before .in-range .ensures) ∙ not-true _ (c .before .if2 .taken)))
+    ∙ sym (question-window _ _ _ _ (counted .accepted .unrefused)
+    (omega (arith, counted .count, c .before .before .before .if1 .left)) (sym (c .before .before .in-range .ensures) ∙ not-true _ (c .before .if2 .taken)))
 
 returns-3 : tie.Need-returns-3
 returns-3 c =
@@ -49,8 +50,8 @@ returns-4 : tie.Need-returns-4
 returns-4 c =
     let told = c .before .before .before .before in
     let counted = accepted-so _ (told .before .before .check .ensures) (told .checked2 .given .1) in
-    sym (question-kept _ _ _ _ (counted .accepted .unrefused) (omega (arith, counted .count, c .before .before .if1 .left))
-    (sym (c .before .in-range .ensures) ∙ not-false _ (c .if2 .left)))
+    sym (question-kept _ _ _ _ (counted .accepted .unrefused)
+    (omega (arith, counted .count, c .before .before .if1 .left)) (sym (c .before .in-range .ensures) ∙ not-false _ (c .if2 .left)))
 
 pub question-spec : {M : Type 1} → statement M
 question-spec =

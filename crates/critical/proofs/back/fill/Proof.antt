@@ -59,8 +59,8 @@ loop-again c =
     let turn = read .before .before in
     let marked = start-of turn .pre .0 in
     let mask = marked .all .at _ (shared-slice-read-tick read) in
-    filled-more (entry-sizes (marked .entry)) (turn .loop .inv) (marked-short marked) (read .before .loop-test .taken) mask
-    (c .before .before .before .before .tick .ensures) (c .before .before .lay2 .ensures)
+    filled-more (entry-sizes (marked .entry)) (turn .loop .inv) (marked-short marked) (read .before .loop-test .taken)
+    mask (c .before .before .before .before .tick .ensures) (c .before .before .lay2 .ensures)
 
 same-length : tie.Need-same-length Inv-loop μ-loop
 same-length c = c .before .loop .inv .rows .long ∙ sym (start-of (c .before) .pre .1)

@@ -1,7 +1,7 @@
 use native.Mathlib.Omega.{arith}
 use mathlib.Core.Path.{refl, sym, _∙_}
 use mathlib.Core.Logic.{⊎-elim}
-use Prim.Native.Nat.{_+_, _-_, _*_, _≤_, _<_}
+use Prim.Native.Nat.{_+_, _-_, _*_, _<_}
 use lib.ListN.{length, getD, take, drop}
 use Rattle.model.specs.Machine.{count}
 use Rattle.sheet.specs.Inside.{machineAt}
@@ -80,7 +80,8 @@ first-making-requires c κs =
     ((marked .entry, back-ready (entry-sizes (marked .entry)) (tick .figures) (omega arith) (tick .marks)), tick .long)
 
 cost-requires : tie.Need-cost-requires Inv-loop μ-loop
-cost-requires c κs = has-action (start-of (c .before .before .before .before .before .before) .pre .0 .0 .entry) (known c)
+cost-requires c κs =
+    has-action (start-of (c .before .before .before .before .before .before) .pre .0 .0 .entry) (known c)
 
 sub-left : tie.Need-sub-left Inv-loop μ-loop
 sub-left c =

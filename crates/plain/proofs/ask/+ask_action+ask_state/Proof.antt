@@ -102,7 +102,8 @@ module _ (n : ℕ) where
       omega (
         arith,
         action-small (entry-sizes entry) span known (found .before .first-instant .ensures) (found .if1 .left)
-            (entry .read .actions) (c .cost .ensures) (c .before .before .sink .ensures) (c .before .ask-state .ensures),
+            (entry .read .actions) (c .cost .ensures) (c .before .before .sink .ensures)
+            (c .before .ask-state .ensures),
       )
 
   action-returns-2 : ask-action-lts.Need-returns-2 action-calls ask-action-at ask-action.Post

@@ -34,8 +34,8 @@ loop-again c =
     let turn = c .before .before in
     let entry = turn .before .before .before .before .pre .0 in
     let more =
-    asked-more (turn .before .before .loop .inv) (omega (arith, entry .read .states, turn .if1 .taken)) (entry .read .actions)
-    (c .before .ask-state .ensures) in
+    asked-more (turn .before .before .loop .inv) (omega (arith, entry .read .states, turn .if1 .taken))
+    (entry .read .actions) (c .before .ask-state .ensures) in
     ⊎-elim (λ w. more (max-eq-right (le-of-lt (w .0 .taken)) ∙ sym (w .1)))
     (λ w. more (max-eq-left (w .0 .left) ∙ sym (w .1))) (c .if2 .came)
 

@@ -47,7 +47,8 @@ loop-again c =
 returns-2 : tie.Need-returns-2 Inv-loop μ-loop
 returns-2 c =
     let entry = c .before .before .before .before .pre in
-    sym (hasInstant-by _ _ none (λ j l. c .before .before .loop .inv j (omega (arith, entry .read .actions, c .if1 .left))))
+    let all = entry .read .actions in
+    sym (hasInstant-by _ _ none (λ j l. c .before .before .loop .inv j (omega (arith, all, c .if1 .left))))
 
 pub has-instant-spec : {M : Type 1} → statement M
 has-instant-spec =

@@ -4,8 +4,8 @@ use Rattle.reply.specs.Inside.{found}
 use Rattle.sheet.specs.Rules.{machineRefusal}
 use borrow.Author.Needs.{needs}
 use native.Mathlib.Omega.{arith}
-use mathlib.Core.Path.{_≡_, sym, _∙_, ap}
-use Prim.Native.Nat.{_≤_, _<_, _-_}
+use mathlib.Core.Path.{sym, _∙_, ap}
+use Prim.Native.Nat.{_≤_, _-_}
 use Rattle.sheet.proofs.rules.action_rule.Statement.{statement}
 use Rattle.sheet.proofs.rules.action_rule.Tie as tie
 

@@ -2,7 +2,7 @@ use Rattle.model.proofs.Search.{Clear, clear-begin, clear-found, clear-more, cl
 use Rattle.reply.proofs.Refusals.{broken-here, kept-here}
 use Rattle.sheet.specs.Rules.{entryRefusal}
 use native.Mathlib.Omega.{arith}
-use mathlib.Core.Path.{_≡_, sym, _∙_}
+use mathlib.Core.Path.{sym, _∙_}
 use Prim.Native.Nat.{_≤_, _-_}
 use Rattle.sheet.proofs.rules.entry_rule.Statement.{statement}
 use Rattle.sheet.proofs.rules.entry_rule.Tie as tie

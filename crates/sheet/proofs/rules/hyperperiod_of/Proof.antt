@@ -9,7 +9,7 @@ use Rattle.number.proofs.Divide.{lcms-positive}
 use Rattle.number.specs.Divide.{fold, lcm}
 use native.Mathlib.Omega.{arith}
 use lib.ListN.{length}
-use mathlib.Core.Path.{_≡_, refl}
+use mathlib.Core.Path.{refl}
 use Prim.Native.Nat.{_≤_, _<_, _-_}
 use Rattle.sheet.proofs.rules.hyperperiod_of.Statement.{statement}
 use Rattle.sheet.proofs.rules.hyperperiod_of.Tie as tie

@@ -1,5 +1,5 @@
 use Prim.Native.Nat.{ℕ, _+_, _≤_, _<_, _-_}
-use mathlib.Core.Path.{_≡_, _∙_, ap}
+use mathlib.Core.Path.{_∙_, ap}
 use native.Mathlib.Omega.{arith}
 use Rattle.number.specs.Divide.{fold, lcm}
 use Rattle.number.proofs.Divide.{lcm-positive}
@@ -74,8 +74,8 @@ lcm-of-requires c κs = omega (arith, in-range c)
 returns : tie.Need-returns Inv-loop μ-loop
 returns c =
     let turn = c .before .before .before in
-    let known = has turn .read .known in
-    let rises = taking-rises (next (c .before)) (positive (c .before)) (machine-positive _ (start-of turn .pre .0) known) in
+    let all = machine-positive _ (start-of turn .pre .0) (has turn .read .known) in
+    let rises = taking-rises (next (c .before)) (positive (c .before)) all in
     by-number (turn .before .before .before) (record { exact = λ l. absurd (omega arith); above = λ l. omega arith })
 
 add-j : tie.Need-add-j Inv-loop μ-loop
@@ -90,7 +90,8 @@ loop-again c = (omega arith, (positive (c .before), omega arith), next (c .befor
 returns-2 : tie.Need-returns-2 Inv-loop μ-loop
 returns-2 c =
     let read = c .before .before .before in
-    let whole = taking-end (c .before .before .loop .inv .2) (omega (arith, read .entry .ensures .1 .actions, c .if1 .left)) in
+    let counted = read .entry .ensures .1 .actions in
+    let whole = taking-end (c .before .before .loop .inv .2) (omega (arith, counted, c .if1 .left)) in
     by-number read (record { exact = λ l. whole; above = λ l. absurd (omega arith) })
 
 pub multiple-of-spec : {M : Type 1} → statement M

@@ -6,8 +6,8 @@ use Rattle.model.specs.Search.{firstOf}
 use Rattle.sheet.specs.Format.{actionSize, machineCount}
 use mathlib.Core.Option.{none}
 use native.Mathlib.Omega.{arith}
-use mathlib.Core.Path.{_≡_, refl, sym, _∙_, ap}
-use Prim.Native.Nat.{ℕ, _*_, _≤_, _-_}
+use mathlib.Core.Path.{_≡_, sym, _∙_}
+use Prim.Native.Nat.{_*_, _≤_, _-_}
 use Rattle.sheet.proofs.rules.offset_rule.Statement.{statement}
 use Rattle.sheet.proofs.rules.offset_rule.Tie as tie
 

@@ -2,7 +2,7 @@ use Rattle.verdict.proofs.Half.{half-small, half-top, half-more, half-i
 use Rattle.verdict.proofs.Half.{Kept, kept-begin, kept-lines, ticking-few, ticking-place, HalfMoved, half-begin, half-standing}
 use native.Mathlib.Nat.{le-antisymm}
 use native.Mathlib.Omega.{arith}
-use Prim.Native.Nat.{_≤_, _<_, _-_}
+use Prim.Native.Nat.{_≤_, _-_}
 use Rattle.verdict.proofs.lines.level_moved.Statement.{statement}
 use Rattle.verdict.proofs.lines.level_moved.Tie as tie
 

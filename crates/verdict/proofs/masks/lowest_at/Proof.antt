@@ -1,8 +1,7 @@
 use Rattle.verdict.proofs.Marking.{idle-begin, idle-more}
 use Rattle.verdict.specs.Inside.{Idle}
-use mathlib.Core.Path.{_≡_}
 use native.Mathlib.Omega.{arith}
-use Prim.Native.Nat.{_*_, _+_, _≤_, _-_}
+use Prim.Native.Nat.{_≤_, _-_}
 use Rattle.verdict.proofs.masks.lowest_at.Statement.{statement}
 use Rattle.verdict.proofs.masks.lowest_at.Tie as tie
 

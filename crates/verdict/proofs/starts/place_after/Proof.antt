@@ -1,6 +1,6 @@
 use native.Mathlib.Omega.{arith}
 use native.Mathlib.Nat.{mod-self, mod-eq-of-lt}
-use mathlib.Core.Path.{sym, _∙_, ap}
+use mathlib.Core.Path.{sym}
 use borrow.Author.Needs.{needs}
 use Rattle.verdict.proofs.starts.place_after.Statement.{statement}
 use Rattle.verdict.proofs.starts.place_after.Tie as tie

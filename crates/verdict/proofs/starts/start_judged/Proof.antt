@@ -206,7 +206,8 @@ loop-again c =
     let walked = head join .loop .inv .1 in (
       omega (arith, near join),
       walked-next (start .pre .0) (start .pre .1) (come join) (near join) (left join) (roomy .before .if2 .left)
-          (walked .roomy) (roomy .slack-after .ensures) (walked .placed) (roomy .before .before .before .place-after .ensures)
+          (walked .roomy) (roomy .slack-after .ensures) (walked .placed)
+          (roomy .before .before .before .place-after .ensures)
           (omega (arith, due (c .before), c .if4 .left)),
     )
 
@@ -221,7 +222,8 @@ loop-again-2 c =
     let walked = head join .loop .inv .1 in (
       omega (arith, near join),
       walked-light (start .pre .0) (start .pre .1) (come join) (near join) (left join) (roomy .before .if2 .left)
-          (walked .roomy) (roomy .slack-after .ensures) (walked .placed) (roomy .before .before .before .place-after .ensures)
+          (walked .roomy) (roomy .slack-after .ensures) (walked .placed)
+          (roomy .before .before .before .place-after .ensures)
           (c .if3 .left),
     )
 
