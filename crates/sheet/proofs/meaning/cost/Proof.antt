@@ -1,10 +1,9 @@
 use Rattle.model.proofs.Names.{cost-read}
-use borrow.Author.Needs.{needs}
 use Rattle.sheet.proofs.meaning.cost.Statement.{statement}
 use Rattle.sheet.proofs.meaning.cost.Tie as tie
 
 time-requires : tie.Need-time-requires
-time-requires c κs = search needs
+time-requires c κs = c .before .pre
 
 returns : tie.Need-returns
 returns c = cost-read _ _ (c .time .ensures)

@@ -1,14 +1,14 @@
 use mathlib.Core.Path.{_∙_, ap}
 use Rattle.model.specs.Machine.{Action}
-use borrow.Author.Needs.{needs}
+use native.Mathlib.Omega.{arith}
 use Rattle.sheet.proofs.read.source.Statement.{statement}
 use Rattle.sheet.proofs.read.source.Tie as tie
 
 action-at-requires : tie.Need-action-at-requires
-action-at-requires c κs = search needs
+action-at-requires c κs = c .before .pre
 
 read-byte-requires : tie.Need-read-byte-requires
-read-byte-requires c κs = search needs
+read-byte-requires c κs = omega (arith, c .action-at .ensures .inside)
 
 returns : tie.Need-returns
 returns c = c .read-byte .ensures .0 ∙ ap (λ (a : Action). a .source) (c .before .action-at .ensures .is)
