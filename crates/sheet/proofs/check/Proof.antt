@@ -16,7 +16,7 @@ kept : (c : tie.After-enum-told) → firstRules (c .before .before .before .befo
 kept c = sym (c .before .before .first-rules .ensures) ∙ ap found (c .enum-told .given .1)
 
 first-rules-requires : tie.Need-first-rules-requires
-first-rules-requires c κs = search needs
+first-rules-requires c κs = tt
 
 enum-known-rule : tie.Need-enum-known-rule
 enum-known-rule c = search needs
@@ -31,7 +31,7 @@ hyperperiod-of-requires : tie.Need-hyperperiod-of-requires
 hyperperiod-of-requires c κs = first-ranged _ (kept c)
 
 placeless-requires : tie.Need-placeless-requires
-placeless-requires c κs = search needs
+placeless-requires c κs = tt
 
 returns-2 : tie.Need-returns-2
 returns-2 c =

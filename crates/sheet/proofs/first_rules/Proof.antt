@@ -38,7 +38,7 @@ to-offsets c =
     ∙ orElse-clear _ (offsets-kept c)
 
 trailer-rules-requires : tie.Need-trailer-rules-requires
-trailer-rules-requires c κs = search needs
+trailer-rules-requires c κs = tt
 
 enum-told : tie.Need-enum-told
 enum-told c = search needs

@@ -6,13 +6,13 @@ enum-told : tie.Need-enum-told
 enum-told c = search needs
 
 source-requires : tie.Need-source-requires
-source-requires c κs = search needs
+source-requires c κs = c .before .before .before .pre
 
 enum-told-2 : tie.Need-enum-told-2
 enum-told-2 c = search needs
 
 sink-requires : tie.Need-sink-requires
-sink-requires c κs = search needs
+sink-requires c κs = c .before .before .before .pre
 
 returns : tie.Need-returns
 returns c = rw (c .before .enum-told .given .1) (c .source .ensures)

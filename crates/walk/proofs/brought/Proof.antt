@@ -2,12 +2,11 @@ use Prim.Native.Nat.{ℕ, _+_}
 use mathlib.Core.Path.{ap₂}
 use native.Mathlib.Omega.{arith}
 use Rattle.model.specs.Inside.{figure}
-use borrow.Author.Needs.{needs}
 use Rattle.walk.proofs.brought.Statement.{statement}
 use Rattle.walk.proofs.brought.Tie as tie
 
 behind-requires : tie.Need-behind-requires
-behind-requires c κs = search needs
+behind-requires c κs = c .before .before .pre .action
 
 mul-result : tie.Need-mul-result
 mul-result c =
@@ -20,7 +19,7 @@ shared-slice-read-result c =
     omega (arith, c .before .behind .ensures, start .pre .leaves (start .args .way), start .pre .long)
 
 cost-requires : tie.Need-cost-requires
-cost-requires c κs = search needs
+cost-requires c κs = c .before .before .before .before .pre .action
 
 returns : tie.Need-returns
 returns c =

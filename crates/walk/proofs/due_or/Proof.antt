@@ -1,12 +1,11 @@
 use native.Mathlib.Omega.{arith}
 use Rattle.sheet.specs.Inside.{machineAt}
 use Rattle.walk.proofs.Row.{due-late, due-more, due-less}
-use borrow.Author.Needs.{needs}
 use Rattle.walk.proofs.due_or.Statement.{statement}
 use Rattle.walk.proofs.due_or.Tie as tie
 
 deadline-requires : tie.Need-deadline-requires
-deadline-requires c κs = search needs
+deadline-requires c κs = c .before .pre .action
 
 returns : tie.Need-returns
 returns c =
@@ -15,7 +14,7 @@ returns c =
     (omega (arith, c .before .deadline .ensures))
 
 brought-requires : tie.Need-brought-requires
-brought-requires c κs = search needs
+brought-requires c κs = c .before .before .before .before .pre
 
 returns-2 : tie.Need-returns-2
 returns-2 c =

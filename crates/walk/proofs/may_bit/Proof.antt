@@ -2,12 +2,11 @@ use mathlib.Core.Path.{sym, _∙_, ap}
 use Rattle.model.proofs.Accepted.{sizes-may}
 use Rattle.sheet.proofs.Entries.{entry-sizes}
 use Rattle.walk.specs.Inside.{bit}
-use borrow.Author.Needs.{needs}
 use Rattle.walk.proofs.may_bit.Statement.{statement}
 use Rattle.walk.proofs.may_bit.Tie as tie
 
 has-instant-requires : tie.Need-has-instant-requires
-has-instant-requires c κs = search needs
+has-instant-requires c κs = c .before .pre
 
 returns : tie.Need-returns
 unfolding bit

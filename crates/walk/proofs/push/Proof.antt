@@ -2,7 +2,6 @@ use Prim.Native.Nat.{_<_}
 use native.Mathlib.Omega.{arith}
 use Rattle.sheet.specs.Inside.{machineAt}
 use Rattle.walk.proofs.Row.{pushed-more, pushed-same}
-use borrow.Author.Needs.{needs}
 use Rattle.walk.proofs.push.Statement.{statement}
 use Rattle.walk.proofs.push.Tie as tie
 
@@ -13,10 +12,10 @@ inside c =
     omega (arith, c .ahead .ensures, start .pre .0 .reaches (start .args .way))
 
 ahead-requires : tie.Need-ahead-requires
-ahead-requires c κs = search needs
+ahead-requires c κs = c .before .pre .0 .action
 
 brought-requires : tie.Need-brought-requires
-brought-requires c κs = search needs
+brought-requires c κs = c .before .before .before .pre .0
 
 mul-if1 : tie.Need-mul-if1
 mul-if1 c = omega (arith, inside (c .before .before))

@@ -6,7 +6,7 @@ use Rattle.sheet.proofs.read.first_action.Statement.{statement}
 use Rattle.sheet.proofs.read.first_action.Tie as tie
 
 entry-at-requires : tie.Need-entry-at-requires
-entry-at-requires c κs = search needs
+entry-at-requires c κs = c .before .pre
 
 add-read-le32 : tie.Need-add-read-le32
 add-read-le32 c = search needs

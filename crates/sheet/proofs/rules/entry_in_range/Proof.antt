@@ -1,25 +1,24 @@
 use Rattle.sheet.proofs.Tests.{entry-test}
-use borrow.Author.Needs.{needs}
 use Rattle.sheet.proofs.rules.entry_in_range.Statement.{statement}
 use Rattle.sheet.proofs.rules.entry_in_range.Tie as tie
 
 states-requires : tie.Need-states-requires
-states-requires c κs = search needs
+states-requires c κs = c .before .pre
 
 initial-requires : tie.Need-initial-requires
-initial-requires c κs = search needs
+initial-requires c κs = c .before .before .pre
 
 action-count-requires : tie.Need-action-count-requires
-action-count-requires c κs = search needs
+action-count-requires c κs = c .before .before .before .pre
 
 zero-byte-requires : tie.Need-zero-byte-requires
-zero-byte-requires c κs = search needs
+zero-byte-requires c κs = c .before .before .before .before .pre
 
 between-requires : tie.Need-between-requires
-between-requires c κs = search needs
+between-requires c κs = tt
 
 between-requires-2 : tie.Need-between-requires-2
-between-requires-2 c κs = search needs
+between-requires-2 c κs = tt
 
 returns : tie.Need-returns
 returns c =

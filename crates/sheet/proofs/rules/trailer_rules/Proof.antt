@@ -5,7 +5,6 @@ use Rattle.sheet.specs.Inside.{trailerRules}
 use Rattle.sheet.specs.Rules.{between, rule2, rule3, rule4}
 use Rattle.reply.specs.Reply.{_orElse_}
 use Prim.Native.Nat.{_≤_}
-use borrow.Author.Needs.{needs}
 use borrow.Author.Tests.{not-false}
 use lib.ListN.{length}
 use native.Mathlib.Omega.{arith}
@@ -41,10 +40,10 @@ past-three c =
     past-two (c .before .before .before) ∙ orElse-clear _ (kept-here _ _ (counted (c .before)) (c .if3 .left))
 
 between-requires : tie.Need-between-requires
-between-requires c κs = search needs
+between-requires c κs = tt
 
 placeless-requires : tie.Need-placeless-requires
-placeless-requires c κs = search needs
+placeless-requires c κs = tt
 
 returns : tie.Need-returns
 returns c =
@@ -55,7 +54,7 @@ marked-requires : tie.Need-marked-requires
 marked-requires c κs = omega (arith, long c)
 
 placeless-requires-2 : tie.Need-placeless-requires-2
-placeless-requires-2 c κs = search needs
+placeless-requires-2 c κs = tt
 
 returns-2 : tie.Need-returns-2
 returns-2 c =
@@ -66,10 +65,10 @@ machine-count-requires : tie.Need-machine-count-requires
 machine-count-requires c κs = omega (arith, long (c .before .before))
 
 between-requires-2 : tie.Need-between-requires-2
-between-requires-2 c κs = search needs
+between-requires-2 c κs = tt
 
 placeless-requires-3 : tie.Need-placeless-requires-3
-placeless-requires-3 c κs = search needs
+placeless-requires-3 c κs = tt
 
 returns-3 : tie.Need-returns-3
 returns-3 c =
@@ -80,7 +79,7 @@ trailer-in-range-requires : tie.Need-trailer-in-range-requires
 trailer-in-range-requires c κs = omega (arith, long (c .before .before .before .before .before))
 
 placeless-requires-4 : tie.Need-placeless-requires-4
-placeless-requires-4 c κs = search needs
+placeless-requires-4 c κs = tt
 
 returns-4 : tie.Need-returns-4
 returns-4 c =
