@@ -1,8 +1,8 @@
 // Answers one question about a sheet from standard input. Four words of the command line name the question, the machine
 // and the window; for words that ask nothing the usage is said on standard error, and no sheet is read. A word of over
 // 64 characters is none.
-use question::Asked;
-use question::Question;
+use reply::Asked;
+use reply::Question;
 use terminal::Input;
 
 fn main() {
@@ -14,7 +14,7 @@ fn main() {
     let start = os::arg(3, &mut from);
     let mut to = [0u8; 64];
     let end = os::arg(4, &mut to);
-    let asked = question::asked_by(
+    let asked = saglubitan::asked_by(
         os::arg_count(),
         &name[..named],
         &machine[..number],
@@ -41,7 +41,7 @@ fn answer(question: Question) {
 
 fn print(sheet: &[u8], question: Question) {
     let mut out = [0u8; 65536];
-    let printed = question::ask(sheet, question, &mut out);
+    let printed = saglubitan::ask(sheet, question, &mut out);
     let length = printed.length;
     terminal::print(&out[..length], b"ask: cannot write standard output\n");
     terminal::say_refusal(b"ask", printed.refusal);

@@ -1,5 +1,4 @@
 -- A table in the middle of being filled.
--- Assumes nothing.
 use Prim.Native.Nat.{ℕ, zero, suc, _+_, _<_}
 use mathlib.Core.Path.{_≡_, refl, sym, _∙_}
 use mathlib.Core.List.{List, [], _∷_, _++_, append-assoc}
@@ -10,7 +9,7 @@ use native.Mathlib.Nat.{eq-or-lt-of-le, le-of-suc-le-suc}
 use lib.ListN.{length, getD, set, drop, length-append, length-set, List·getD-append}
 use lib.Seq.{drop-cons, set-at, getD-at}
 use Rattle.model.specs.Machine.{Machine}
-use Rattle.model.specs.Legal.{asked}
+use Rattle.model.specs.Legal.{requested}
 use Rattle.model.specs.Reckon.{request}
 use Rattle.model.specs.Inside.{IsRow}
 use Rattle.reply.specs.Lent.{inFront}
@@ -45,17 +44,17 @@ module _ (f : ℕ → ℕ) where
 
 -- the first n words are written, and `row` has the figures after n ticks
 pub record Filling (m : Machine) (s n : ℕ) (old words row : List ℕ) : Type 0 where
-  pub figures : IsRow m (asked m) s n row
+  pub figures : IsRow m (requested m) s n row
   pub long : length words ≡ length old
   pub written : words ≡ listed (request m s) n ++ drop n old
 
 module _ {m : Machine} {s : ℕ} {old row : List ℕ} where
-  pub filling-begin : IsRow m (asked m) s 0 row → Filling m s 0 old old row
+  pub filling-begin : IsRow m (requested m) s 0 row → Filling m s 0 old old row
   unfolding listed
   filling-begin h = record { figures = h; long = refl; written = refl }
 
   pub filling-more : {n v : ℕ} {words next : List ℕ} → Filling m s n old words row → n < length old
-      → v ≡ request m s n → IsRow m (asked m) s (n + 1) next → Filling m s (n + 1) old (set words n v) next
+      → v ≡ request m s n → IsRow m (requested m) s (n + 1) next → Filling m s (n + 1) old (set words n v) next
   filling-more {n} {v} {words} h l e figures =
       record {
         figures = figures;

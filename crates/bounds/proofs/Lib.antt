@@ -1,3 +1,2 @@
-pub mod Answer
 pub mod Filling
-pub mod Words
+pub mod Replies

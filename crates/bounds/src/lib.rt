@@ -26,7 +26,7 @@ pub fn request(sheet: &[u8], machine: u32, from: u32, to: u32) -> Answer
     ensures { λ r. ⌜ paper r ≡ requestReply (now (sheet .entry)) machine from to ⌝ }
     ensures { λ r. ⌜ Figure (IsRequestBound (machineOf (decode (now (sheet .entry))) machine) from to) r ⌝ }
 {
-    let rule = window::question(sheet, machine, from as u64, to as u64);
+    let rule = window::question_rule(sheet, machine, from as u64, to as u64);
     if let Rule::Broken(refusal) = rule {
         return Answer::Refused(refusal);
     }
@@ -38,7 +38,7 @@ pub fn demand(sheet: &[u8], machine: u32, from: u32, to: u32) -> Answer
     ensures { λ r. ⌜ paper r ≡ demandReply (now (sheet .entry)) machine from to ⌝ }
     ensures { λ r. ⌜ Figure (IsDemandBound (machineOf (decode (now (sheet .entry))) machine) from to) r ⌝ }
 {
-    let rule = window::question(sheet, machine, from as u64, to as u64);
+    let rule = window::question_rule(sheet, machine, from as u64, to as u64);
     if let Rule::Broken(refusal) = rule {
         return Answer::Refused(refusal);
     }
@@ -52,7 +52,7 @@ pub fn table(sheet: &[u8], machine: u32, from: u32, length: u32, words: &mut [u3
     ensures { λ _. ⌜ now (words .exit) ≡ tableWords (now (sheet .entry)) machine from length (now (words .entry)) ⌝ }
     ensures { λ r. ⌜ HoldsBounds (machineOf (decode (now (sheet .entry))) machine) from length (now (words .exit)) r ⌝ }
 {
-    let rule = window::question(sheet, machine, from as u64, from as u64 + length as u64);
+    let rule = window::question_rule(sheet, machine, from as u64, from as u64 + length as u64);
     if let Rule::Broken(refusal) = rule {
         return Tabled::Refused(refusal);
     }
@@ -63,8 +63,8 @@ pub fn table(sheet: &[u8], machine: u32, from: u32, length: u32, words: &mut [u3
     Tabled::Filled
 }
 
-// The request bound of [from, from + length).
-fn request_of(sheet: &[u8], machine: usize, from: u32, length: u32) -> u32
+// The request bound of [from, from + length), of a sheet that is known to be accepted.
+pub fn request_of(sheet: &[u8], machine: usize, from: u32, length: u32) -> u32
     requires { ⌜ Proper (now sheet) machine from (from + length) ⌝ }
     ensures { λ r. ⌜ r ≡ Reckon·request (machineOf (decode (now (sheet .entry))) machine) from length ⌝ }
 {
@@ -74,8 +74,8 @@ fn request_of(sheet: &[u8], machine: usize, from: u32, length: u32) -> u32
     walk::top(&row, entry.states)
 }
 
-// The demand bound of [from, from + length].
-fn demand_of(sheet: &[u8], machine: usize, from: u32, length: u32) -> u32
+// The demand bound of [from, from + length], of a sheet that is known to be accepted.
+pub fn demand_of(sheet: &[u8], machine: usize, from: u32, length: u32) -> u32
     requires { ⌜ Proper (now sheet) machine from (from + length) ⌝ }
     ensures { λ r. ⌜ r ≡ Reckon·demand (machineOf (decode (now (sheet .entry))) machine) from length ⌝ }
 {
@@ -99,7 +99,7 @@ fn walk_to(sheet: &[u8], entry: Entry, from: u32, length: u32) -> Front
     requires { ⌜ IsEntry (now sheet) entry × InRange from (from + length) ⌝ }
     ensures { λ r. ⌜ IsFront (machineAt (now (sheet .entry)) entry) from length r ⌝ }
 {
-    let masks = walk::window_marks(sheet, entry, from, length as usize);
+    let masks = walk::window_masks(sheet, entry, from, length as usize);
     let mut row = [0u32; 16];
     let mut last = 0;
     let mut mask = masks[0];
@@ -130,7 +130,7 @@ fn fill(sheet: &[u8], machine: usize, from: u32, length: u32, words: &mut [u32])
     ensures { λ _. ⌜ now (words .exit) ≡ withTable (now (sheet .entry)) machine from length (now (words .entry)) ⌝ }
 {
     let entry = sheet::entry_of(sheet, machine);
-    let masks = walk::window_marks(sheet, entry, from, length as usize);
+    let masks = walk::window_masks(sheet, entry, from, length as usize);
     let mut row = [0u32; 16];
     let mut n = 0;
     while n <= length {

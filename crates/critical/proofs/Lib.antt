@@ -1,5 +1,4 @@
 pub mod Words
-pub mod Rows
 pub mod Making
 pub mod Tracing
-pub mod Replied
+pub mod Replies

@@ -1,5 +1,4 @@
 -- The walk forward: what has been written and what is left make up the critical sequence.
--- Assumes nothing.
 use Prim.Native.Nat.{ℕ, suc, _+_, _-_, _*_, _≤_, _<_}
 use mathlib.Core.Path.{_≡_, refl, sym, _∙_, ap}
 use mathlib.Core.Bool.{true, false}
@@ -10,7 +9,7 @@ use lib.Seq.{length-take-le, take-all}
 use borrow.Author.Tests.{eqb-true}
 use Rattle.model.specs.Limits.{longestWindow}
 use Rattle.model.specs.Machine.{Machine, count, actionOf}
-use Rattle.model.specs.Legal.{cost, asked}
+use Rattle.model.specs.Legal.{cost, requested}
 use Rattle.model.specs.Reckon.{begins?, pair, open?, after, best, request}
 use Rattle.model.specs.Inside.{Closed, may?, IsBack}
 use Rattle.model.specs.Critical.{makes?, firstBest, critical}
@@ -21,21 +20,22 @@ use Rattle.walk.specs.Inside.{Marks, AllMarked}
 use Rattle.critical.specs.declared.forward.Leaves.{Leaves}
 use Rattle.critical.specs.declared.forward.Leaves.the-variants.{Any, State}
 use Rattle.critical.specs.Critical.{longestWords, wordsOf}
-use Rattle.critical.specs.Inside.{Holds, Table, makesAt, FirstMaking}
+use Rattle.rows.specs.Inside.{Rows}
+use Rattle.critical.specs.Inside.{Holds, makesAt, FirstMaking}
 use Rattle.critical.proofs.Words.{words-length, pair-written}
 use Rattle.critical.proofs.Making.{allows, makes-is}
 
 -- what is left of the critical sequence from tick t on, for n ticks
 abbrev onward : Machine → ℕ → ℕ → Leaves → List ℕ
-onward m t n leaves = wordsOf (firstBest m (asked m) t n (allows m leaves))
+onward m t n leaves = wordsOf (firstBest m (requested m) t n (allows m leaves))
 
 -- the walk has come to tick s + k: `number` pairs are written, and what is left of the bound is `left`
 pub record Tracing (m : Machine) (s n k : ℕ) (leaves : Leaves) (left number : ℕ) (pairs : List ℕ) : Type 0 where
   pub early : k ≤ n
   pub few : number ≤ k
   pub long : length pairs ≡ longestWords
-  pub begun : (q : ℕ) → allows m leaves q ≡ true → begins? m q ≡ true
-  pub goal : left ≡ best m (asked m) (s + k) (n - k) (allows m leaves)
+  pub begins : (q : ℕ) → allows m leaves q ≡ true → begins? m q ≡ true
+  pub goal : left ≡ best m (requested m) (s + k) (n - k) (allows m leaves)
   pub words : take (2 * number) pairs ++ onward m (s + k) (n - k) leaves ≡ wordsOf (critical m s n)
 
 pub tracing-begin : {m : Machine} {s n bound : ℕ} {pairs : List ℕ} → length pairs ≡ longestWords → bound ≡ request m s n
@@ -48,7 +48,7 @@ tracing-begin {s = s} {n = n} long e =
       early = omega arith;
       few = omega arith;
       long = long;
-      begun = λ q b. b;
+      begins = λ q b. b;
       goal = rw (start, all) e;
       words = rw (start, all) refl;
     }
@@ -57,20 +57,20 @@ tracing-begin {s = s} {n = n} long e =
 pub record Tick (m : Machine) (s n k mask : ℕ) (later : List ℕ) : Type 0 where
   pub more : k < n
   pub marks : Marks m (s + k) mask
-  pub figures : IsBack m (asked m) (s + (k + 1)) (n - (k + 1)) later
+  pub figures : IsBack m (requested m) (s + (k + 1)) (n - (k + 1)) later
   pub long : 16 ≤ length later
 
-pub tick-read : {m : Machine} {s k : ℕ} {masks table : List ℕ} → AllMarked m s masks → Table m s (length masks) 0 table
+pub tick-read : {m : Machine} {s k : ℕ} {masks rows : List ℕ} → AllMarked m s masks → Rows m s (length masks) 0 rows
     → k < length masks → length masks ≤ longestWindow
-    → Tick m s (length masks) k (getD masks k 0) (take (length table - 16 * (k + 1)) (drop (16 * (k + 1)) table))
-tick-read {k = k} {table = table} marked rows l short =
-    let all = take-all (length table - 16 * (k + 1)) (drop (16 * (k + 1)) table) (simp length-drop (omega arith)) in
+    → Tick m s (length masks) k (getD masks k 0) (take (length rows - 16 * (k + 1)) (drop (16 * (k + 1)) rows))
+tick-read {k = k} {rows = rows} marked laid l short =
+    let all = take-all (length rows - 16 * (k + 1)) (drop (16 * (k + 1)) rows) (simp length-drop (omega arith)) in
     rw all
     (record {
       more = l;
       marks = marked .at k l;
-      figures = rows .at (k + 1) (omega arith) (omega arith);
-      long = simp length-drop (omega (arith, rows .long));
+      figures = laid .at (k + 1) (omega arith) (omega arith);
+      long = simp length-drop (omega (arith, laid .long));
     })
 
 -- one tick
@@ -83,46 +83,46 @@ module _ {m : Machine} (closed : Closed m) {s n k mask left number j : ℕ} {lea
   next : s + (k + 1) ≡ suc (s + k)
   next = omega arith
 
-  goal-is : left ≡ best m (asked m) (s + k) (suc (n - (k + 1))) (allows m leaves)
+  goal-is : left ≡ best m (requested m) (s + k) (suc (n - (k + 1))) (allows m leaves)
   goal-is = rw ticks at (h .goal)
 
   words-are : take (2 * number) pairs ++ onward m (s + k) (suc (n - (k + 1))) leaves ≡ wordsOf (critical m s n)
   words-are = rw ticks at (h .words)
 
   makes : (i : ℕ) → i < count m
-      → makesAt m (s + k) leaves left later i ≡ makes? m (asked m) (s + k) (n - (k + 1)) (allows m leaves) i
-  makes = makes-is closed leaves (h .begun) (rw next at (tick .figures)) goal-is
+      → makesAt m (s + k) leaves left later i ≡ makes? m (requested m) (s + k) (n - (k + 1)) (allows m leaves) i
+  makes = makes-is closed leaves (h .begins) (rw next at (tick .figures)) goal-is
 
-  before : (i : ℕ) → i < count m → i < j → makes? m (asked m) (s + k) (n - (k + 1)) (allows m leaves) i ≡ false
+  before : (i : ℕ) → i < count m → i < j → makes? m (requested m) (s + k) (n - (k + 1)) (allows m leaves) i ≡ false
   before i l b = sym (makes i l) ∙ first .before (s + k) (tick .marks) i l b
 
   -- no action makes up what is left, or the smallest that does is the next pair's
   pub tracing-waits : count m ≤ j → Tracing m s n (k + 1) leaves left number pairs
   tracing-waits l =
-      let none : (i : ℕ) → i < count m → makes? m (asked m) (s + k) (n - (k + 1)) (allows m leaves) i ≡ false =
+      let none : (i : ℕ) → i < count m → makes? m (requested m) (s + k) (n - (k + 1)) (allows m leaves) i ≡ false =
       λ i b. before i b (omega arith) in
       record {
         early = omega (arith, tick .more);
         few = omega (arith, h .few);
         long = h .long;
-        begun = h .begun;
-        goal = rw next (goal-is ∙ best-waits m (asked m) (s + k) (n - (k + 1)) (allows m leaves) none);
+        begins = h .begins;
+        goal = rw next (goal-is ∙ best-waits m (requested m) (s + k) (n - (k + 1)) (allows m leaves) none);
         words =
             rw next
             (ap (λ σ. take (2 * number) pairs ++ wordsOf σ)
-            (sym (firstBest-waits m (asked m) (s + k) (n - (k + 1)) (allows m leaves) none))
+            (sym (firstBest-waits m (requested m) (s + k) (n - (k + 1)) (allows m leaves) none))
             ∙ words-are);
       }
 
   module _ (known : j < count m) {own sink : ℕ} (costs : own ≡ cost m j) (leads : sink ≡ actionOf m j .sink) where
-    made : makes? m (asked m) (s + k) (n - (k + 1)) (allows m leaves) j ≡ true
+    made : makes? m (requested m) (s + k) (n - (k + 1)) (allows m leaves) j ≡ true
     made = sym (makes j known) ∙ first .found (s + k) (tick .marks) known
 
     -- its cost is a part of what is left, and the rest is the best that follows
-    parts : left ≡ own + best m (asked m) (suc (s + k)) (n - (k + 1)) (after m j)
+    parts : left ≡ own + best m (requested m) (suc (s + k)) (n - (k + 1)) (after m j)
     parts =
-        let up : asked m (pair j (s + k)) + best m (asked m) (suc (s + k)) (n - (k + 1)) (after m j)
-        ≡ best m (asked m) (s + k) (suc (n - (k + 1))) (allows m leaves) =
+        let up : requested m (pair j (s + k)) + best m (requested m) (suc (s + k)) (n - (k + 1)) (after m j)
+        ≡ best m (requested m) (s + k) (suc (n - (k + 1))) (allows m leaves) =
         eqb-true _ _ (both-true (open? m (allows m leaves) (pair j (s + k))) _ made .1) in
         omega (arith, goal-is)
 
@@ -143,13 +143,13 @@ module _ {m : Machine} (closed : Closed m) {s n k mask left number j : ℕ} {lea
           early = omega (arith, tick .more);
           few = omega (arith, h .few);
           long = ap length e ∙ simp length-set (h .long);
-          begun = λ q b. rw (← (eqb-true sink q b)) sink-begins;
+          begins = λ q b. rw (← (eqb-true sink q b)) sink-begins;
           goal = rw (next, leads) (omega (arith, parts));
           words =
               rw (next, leads, e, pair-written pairs number j (s + k) (omega (arith, h .few, h .long, tick .more)))
               (append-assoc (take (2 * number) pairs) (j ∷ (s + k) ∷ []) _
               ∙ ap (λ σ. take (2 * number) pairs ++ wordsOf σ)
-              (sym (firstBest-takes m (asked m) (s + k) (n - (k + 1)) (allows m leaves) j known made (λ i b.
+              (sym (firstBest-takes m (requested m) (s + k) (n - (k + 1)) (allows m leaves) j known made (λ i b.
               before i (omega arith) b)))
               ∙ words-are);
         }

@@ -1,23 +1,13 @@
--- Lent words: copied one by one, and read as pairs.
--- Assumes nothing.
+-- Lent words, read as pairs.
 use Prim.Native.Nat.{ℕ, suc, _+_, _*_, _≤_, _<_}
-use mathlib.Core.Path.{_≡_, refl, sym, _∙_, ap}
+use mathlib.Core.Path.{_≡_, refl, _∙_, ap}
 use mathlib.Core.List.{List, [], _∷_, _++_, append-assoc}
 use native.Mathlib.Omega.{arith}
-use native.Mathlib.Numerals.{add-one}
-use lib.ListN.{length, getD, take, set, length-set, length-take}
-use lib.Seq.{take-suc, take-suc-set, take-all}
+use lib.ListN.{length, take, set, length-set, length-take}
+use lib.Seq.{take-suc-set}
 use Rattle.model.specs.Legal.{Pair}
 use Rattle.critical.specs.Critical.{wordsOf, pairsIn}
 use Rattle.critical.specs.Inside.{Holds}
-
--- the first k words are copied
-module _ (from to : List ℕ) (k : ℕ) (copied : take k to ≡ take k from) where
-  pub copy-more : k < length to → k < length from → take (k + 1) (set to k (getD from k 0)) ≡ take (k + 1) from
-  copy-more a b = rw add-one (take-suc-set to k (getD from k 0) a ∙ rw copied (sym (take-suc from k 0 b)))
-
-  pub copy-all : length to ≤ k → length from ≤ k → to ≡ from
-  copy-all a b = sym (take-all k to a) ∙ copied ∙ take-all k from b
 
 -- the words of a sequence are two for each pair
 pub words-length : (σ : List Pair) → length (wordsOf σ) ≡ 2 * length σ

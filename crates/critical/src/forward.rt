@@ -5,12 +5,12 @@ ghost use lib.ListN.{length, set};
 ghost use Rattle.model.specs.Reckon.{request};
 ghost use Rattle.sheet.specs.Inside.{machineAt, IsEntry};
 ghost use Rattle.walk.specs.Inside.{Ready, Joins};
+ghost use Rattle.rows.specs.Inside.{MaskedWindow, Rows};
 ghost use Rattle.critical.specs.Critical.{longestWords};
-ghost use Rattle.critical.specs.Inside.{Marked, markedSequence, Holds, Table};
-ghost use Rattle.critical.specs.Inside.{mayLeave, makesUp, FirstMaking};
+ghost use Rattle.critical.specs.Inside.{maskedSequence, Holds, mayLeave, makesUp, FirstMaking};
 use model::Way;
 use sheet::Entry;
-use sheet::read;
+use sheet::fields;
 
 // The states that the next pair may leave: any at first, and then the last pair's sink.
 pub(crate) enum Leaves {
@@ -26,13 +26,13 @@ pub(crate) fn trace(
     from: u32,
     bound: u32,
     masks: &[u32],
-    table: &[u32],
+    rows: &[u32],
     pairs: &mut [u32],
 ) -> usize
-    requires { ⌜ Marked (now sheet) entry from (now masks) × (length (now pairs) ≡ longestWords) ⌝ }
-    requires { ⌜ Table (machineAt (now sheet) entry) from (length (now masks)) 0 (now table) ⌝ }
+    requires { ⌜ MaskedWindow (now sheet) entry from (now masks) × (length (now pairs) ≡ longestWords) ⌝ }
+    requires { ⌜ Rows (machineAt (now sheet) entry) from (length (now masks)) 0 (now rows) ⌝ }
     requires { ⌜ bound ≡ request (machineAt (now sheet) entry) from (length (now masks)) ⌝ }
-    ensures { λ r. ⌜ Holds (markedSequence (now (sheet .entry)) entry from (now (masks .entry))) r
+    ensures { λ r. ⌜ Holds (maskedSequence (now (sheet .entry)) entry from (now (masks .entry))) r
         (now (pairs .exit)) ⌝ }
 {
     let mut leaves = Leaves::Any;
@@ -41,10 +41,10 @@ pub(crate) fn trace(
     let mut k = 0;
     while k < masks.len() {
         let later = 16 * (k + 1);
-        let j = first_making(sheet, entry, masks[k], leaves, left, &table[later..]);
+        let j = first_making(sheet, entry, masks[k], leaves, left, &rows[later..]);
         if j < entry.actions {
             left -= sheet::cost(sheet, entry, j);
-            leaves = Leaves::State(read::sink(sheet, entry, j));
+            leaves = Leaves::State(fields::sink(sheet, entry, j));
             put_pair(pairs, number, j as u32, from + k as u32);
             number += 1;
         }
@@ -75,15 +75,15 @@ fn first_making(
     requires { ⌜ 16 ≤ length (now later) ⌝ }
     ensures { λ r. ⌜ FirstMaking (machineAt (now (sheet .entry)) entry) mask leaves left (now (later .entry)) r ⌝ }
 {
-    let mut rest = mask;
+    let mut unseen = mask;
     let mut j = 0;
-    while rest != 0 {
-        if rest % 2 == 1 {
+    while unseen != 0 {
+        if unseen % 2 == 1 {
             if makes_up(sheet, entry, j, leaves, left, later) {
                 return j;
             }
         }
-        rest = rest / 2;
+        unseen = unseen / 2;
         j += 1;
     }
     entry.actions
@@ -94,7 +94,7 @@ fn makes_up(sheet: &[u8], entry: Entry, j: usize, leaves: Leaves, left: u32, lat
     requires { ⌜ Joins (now sheet) entry j (now later) ⌝ }
     ensures { λ r. ⌜ r ≡ makesUp (machineAt (now (sheet .entry)) entry) leaves left (now (later .entry)) j ⌝ }
 {
-    may_leave(leaves, read::source(sheet, entry, j))
+    may_leave(leaves, fields::source(sheet, entry, j))
         & (walk::brought(sheet, entry, j, Way::Back, later) == left)
 }
 

@@ -47,7 +47,7 @@ pub fn action(
 }
 
 // An action from state 0 to state 0.
-pub fn turn(draft: Draft, period: u32, time: u32, deadline: u32) -> Draft {
+pub fn stay(draft: Draft, period: u32, time: u32, deadline: u32) -> Draft {
     action(draft, 0, 0, period, time, deadline)
 }
 
@@ -90,7 +90,7 @@ pub fn cut(draft: Draft, length: usize) -> Draft {
 
 // PAIR with another execution time in machine 0 and another deadline in machine 1's action 0.
 pub fn pair_with(time: u32, deadline: u32) -> Draft {
-    let a = turn(empty(), 40, time, 40);
+    let a = stay(empty(), 40, time, 40);
     let b = action(a, 0, 1, 40, 5, deadline);
     let c = action(b, 2, 0, 100, 6, 20);
     let d = action(c, 1, 2, 40, 2, 20);
@@ -111,12 +111,12 @@ pub fn one(states: u32, initial: u32, sink: u32, period: u32, time: u32, deadlin
 
 // Two machines of one state and one action each.
 pub fn two(first: Draft, period: u32, time: u32, deadline: u32) -> Draft {
-    let a = turn(first, period, time, deadline);
+    let a = stay(first, period, time, deadline);
     trailer(entry(entry(a, 1, 0, 1, 0), 1, 0, 1, 8), 16, 2)
 }
 
 // One machine of one state and two actions.
 pub fn two_actions(first: Draft, period: u32, time: u32, deadline: u32) -> Draft {
-    let a = turn(first, period, time, deadline);
+    let a = stay(first, period, time, deadline);
     trailer(entry(a, 1, 0, 2, 0), 16, 1)
 }

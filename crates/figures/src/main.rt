@@ -10,8 +10,8 @@ use draft::entry;
 use draft::one;
 use draft::pair;
 use draft::pair_with;
+use draft::stay;
 use draft::trailer;
-use draft::turn;
 use draft::two_actions;
 use draft::with_byte;
 use libc::STDOUT_FILENO;
@@ -66,7 +66,7 @@ fn request(what: &[u8], draft: Draft, machine: u32, from: u32, to: u32) {
     let used = draft.used;
     let whole: &[u8] = &bytes;
     if used <= whole.len() {
-        let answer = bounds::request(&whole[..used], machine, from, to);
+        let answer = saglubitan::request(&whole[..used], machine, from, to);
         answered(answer);
     }
 }
@@ -79,7 +79,7 @@ fn demand(what: &[u8], draft: Draft, machine: u32, from: u32, to: u32) {
     let used = draft.used;
     let whole: &[u8] = &bytes;
     if used <= whole.len() {
-        let answer = bounds::demand(&whole[..used], machine, from, to);
+        let answer = saglubitan::demand(&whole[..used], machine, from, to);
         answered(answer);
     }
 }
@@ -136,7 +136,7 @@ fn demands() {
     demand(b"PAIR", pair(), 1, 7, 3);
     demand(
         b"T2 C3 D1 and T2 C1 D2,",
-        two_actions(turn(empty(), 2, 3, 1), 2, 1, 2),
+        two_actions(stay(empty(), 2, 3, 1), 2, 1, 2),
         0,
         0,
         1,
@@ -177,7 +177,7 @@ fn table(machine: u32, from: u32, length: u32, words: &mut [u32]) {
     let used = draft.used;
     let whole: &[u8] = &bytes;
     if used <= whole.len() {
-        let reply = bounds::table(&whole[..used], machine, from, length, words);
+        let reply = saglubitan::table(&whole[..used], machine, from, length, words);
         tabled(reply);
         lent(words);
     }
@@ -210,7 +210,7 @@ fn fit(what: &[u8], draft: Draft) {
     let whole: &[u8] = &bytes;
     if used <= whole.len() {
         let mut out = [7u8; 512];
-        let printed = report::fit(&whole[..used], &mut out);
+        let printed = saglubitan::fit(&whole[..used], &mut out);
         let length = printed.length;
         let made: &[u8] = &out;
         if length <= made.len() {
@@ -240,7 +240,7 @@ fn short_fit() {
     let whole: &[u8] = &bytes;
     if used <= whole.len() {
         let mut out = [7u8; 511];
-        let printed = report::fit(&whole[..used], &mut out);
+        let printed = saglubitan::fit(&whole[..used], &mut out);
         let length = printed.length;
         io::print_decimal(STDOUT_FILENO, length as u64);
         text(b", bytes kept: ");
@@ -250,7 +250,7 @@ fn short_fit() {
 }
 
 fn fits() {
-    let actions = turn(turn(turn(empty(), 6, 1, 1), 4, 1, 1), 4, 3, 4);
+    let actions = stay(stay(stay(empty(), 6, 1, 1), 4, 1, 1), 4, 3, 4);
     fit(
         b"T6 C1 D1 and T4 C1 D1 beside T4 C3 D4",
         trailer(entry(entry(actions, 1, 0, 2, 0), 1, 0, 1, 16), 24, 2),

@@ -10,8 +10,8 @@ use draft::empty;
 use draft::entry;
 use draft::one;
 use draft::pair;
+use draft::stay;
 use draft::trailer;
-use draft::turn;
 use draft::two;
 
 fn critical(what: &[u8], draft: Draft, machine: u32, from: u32, to: u32, words: &mut [u32]) {
@@ -22,7 +22,7 @@ fn critical(what: &[u8], draft: Draft, machine: u32, from: u32, to: u32, words: 
     let used = draft.used;
     let whole: &[u8] = &bytes;
     if used <= whole.len() {
-        let answer = critical::critical(&whole[..used], machine, from, to, words);
+        let answer = saglubitan::critical(&whole[..used], machine, from, to, words);
         answered(answer);
         lent(words);
     }
@@ -104,7 +104,7 @@ fn plain(what: &[u8], draft: Draft, machine: u32, from: u32, to: u32) {
     let used = draft.used;
     let whole: &[u8] = &bytes;
     if used <= whole.len() {
-        let answer = plain::plain(&whole[..used], machine, from, to);
+        let answer = saglubitan::plain(&whole[..used], machine, from, to);
         answered(answer);
     }
 }
@@ -116,7 +116,7 @@ fn plains() {
     plain(b"T1 C1 D1,", one(1, 0, 0, 1, 1, 1), 0, 0, 7);
     plain(
         b"T1 C1 D1 beside T8 C1 D1,",
-        two(turn(empty(), 1, 1, 1), 8, 1, 1),
+        two(stay(empty(), 1, 1, 1), 8, 1, 1),
         1,
         0,
         8,

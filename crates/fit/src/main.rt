@@ -17,7 +17,7 @@ fn main() {
 
 fn print(sheet: &[u8]) {
     let mut out = [0u8; 512];
-    let printed = report::fit(sheet, &mut out);
+    let printed = saglubitan::fit(sheet, &mut out);
     let length = printed.length;
     terminal::print(&out[..length], b"fit: cannot write standard output\n");
     terminal::say_refusal(b"fit", printed.refusal);

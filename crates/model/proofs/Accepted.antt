@@ -1,5 +1,4 @@
 -- What the theorems ask of a sheet's machines holds of every sheet that keeps to the sizes.
--- Assumes nothing.
 use Prim.Native.Nat.{ℕ, _<_, _%_}
 use mathlib.Core.Path.{_≡_, refl}
 use mathlib.Core.List.{List}

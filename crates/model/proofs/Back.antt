@@ -1,5 +1,4 @@
 -- Rows from the back: for each state the largest total from it, which the critical sequence is read from.
--- Assumes nothing.
 use Prim.Native.Nat.{ℕ, suc, _+_, _*_, _≤_, _<_, max}
 use mathlib.Core.Path.{_≡_, refl, sym, _∙_, ap, ap₂}
 use mathlib.Core.Bool.{Bool, true, false, cond, false≢true, and-true, and-false}
@@ -13,7 +12,7 @@ use lib.Dec.{eqb}
 use borrow.Author.Tests.{eq-eqb, ne-eqb}
 use Rattle.model.specs.declared.Way.the-variants.{Back}
 use Rattle.model.specs.Machine.{Machine, count, actionOf}
-use Rattle.model.specs.Legal.{Pair, total, cost, asked}
+use Rattle.model.specs.Legal.{Pair, total, cost, requested}
 use Rattle.model.specs.Reckon.{instant?, begins?, most, gain, best, request}
 use Rattle.model.specs.Inside.{Closed, may?, brings, moved, figure, IsMoved, IsBack}
 use Rattle.model.proofs.Tests.{true-or-false, both-true, cond-cases, cond-cong}
@@ -37,7 +36,7 @@ module _ (m : Machine) (w : Pair → ℕ) where
       → IsBack m w t (n + 1) new
   unfolding best
   back-earlier c t n old new h g =
-      rw (add-one n) (record { at = λ q l. g .at q l ∙ ⊎-elim (begun q l) (idle q l) (true-or-false (begins? m q)) })
+      rw (add-one n) (record { at = λ q l. g .at q l ∙ ⊎-elim (begins q l) (idle q l) (true-or-false (begins? m q)) })
     where
       -- the figure of a state that may begin a sequence is the best from it
       later : (q : ℕ) → q < m .states → begins? m q ≡ true → figure old q ≡ best m w (suc t) n (eqb q)
@@ -60,9 +59,9 @@ module _ (m : Machine) (w : Pair → ℕ) where
                 ) refl
           ]
 
-      begun : (q : ℕ) → q < m .states → begins? m q ≡ true
+      begins : (q : ℕ) → q < m .states → begins? m q ≡ true
           → moved Back m w t (figure old) q ≡ cond (begins? m q) (best m w t (suc n) (eqb q)) 0
-      begun q l b = rw b (ap₂ max (later q l b) (most-cong (count m) _ _ (λ k. brought q k b)))
+      begins q l b = rw b (ap₂ max (later q l b) (most-cong (count m) _ _ (λ k. brought q k b)))
 
       -- no action that may be triggered leaves another state
       idle : (q : ℕ) → q < m .states → begins? m q ≡ false
@@ -117,16 +116,16 @@ module _ (m : Machine) (w : Pair → ℕ) where
       below = let (σ, r, e) = lower from in omega (arith, one σ r)
 
 -- at most c for each tick, where no action costs more than c
-pub back-limit : (m : Machine) (t n : ℕ) (row : List ℕ) → IsBack m (asked m) t n row → (c : ℕ)
+pub back-limit : (m : Machine) (t n : ℕ) (row : List ℕ) → IsBack m (requested m) t n row → (c : ℕ)
     → ((k : ℕ) → k < count m → cost m k ≤ c) → (q : ℕ) → q < m .states → figure row q ≤ n * c
 back-limit m t n row h c low q l =
     ⊎-elim (λ z. omega (arith, h .at q l))
-    (λ (b, e). omega (arith, h .at q l, best-limit m (asked m) c (λ p. low (p .action)) t n (eqb q)))
-    (cond-cases (begins? m q) (best m (asked m) t n (eqb q)))
+    (λ (b, e). omega (arith, h .at q l, best-limit m (requested m) c (λ p. low (p .action)) t n (eqb q)))
+    (cond-cases (begins? m q) (best m (requested m) t n (eqb q)))
 
 -- the request bound is the largest figure of the row of the window's start
-pub back-request : (m : Machine) → Closed m → (s n : ℕ) (row : List ℕ) → IsBack m (asked m) s n row
+pub back-request : (m : Machine) → Closed m → (s n : ℕ) (row : List ℕ) → IsBack m (requested m) s n row
     → most (m .states) (figure row) ≡ request m s n
 unfolding request
 back-request m c s n row h =
-    most-cong (m .states) _ _ (h .at) ∙ best-states m (asked m) s n (begins? m) (m .states) (closed-inside c)
+    most-cong (m .states) _ _ (h .at) ∙ best-states m (requested m) s n (begins? m) (m .states) (closed-inside c)

@@ -1,5 +1,4 @@
 -- `best` is the largest total of what goes onward from a set of states: none has more, and one has as much.
--- Assumes nothing.
 use Prim.Native.Nat.{ℕ, zero, suc, _+_, _*_, _≤_, _<_}
 use mathlib.Core.Path.{_≡_, refl}
 use mathlib.Core.Bool.{Bool}

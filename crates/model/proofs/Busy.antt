@@ -1,6 +1,5 @@
 -- On a sheet that Fits nothing late is ever queued. For each machine i an account is kept from tick to tick of the time
 -- since which machines 0 to i have been busy; an action that were late would give a tested length that fails.
--- Assumes nothing.
 use Prim.Native.Nat.{ℕ, zero, suc, _+_, _%_, _≤_, _<_}
 use mathlib.Core.Path.{_≡_, refl, sym, subst}
 use mathlib.Core.List.{List, [], _∷_}

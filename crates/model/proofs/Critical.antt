@@ -1,5 +1,4 @@
 -- The critical sequence: there is one of each window and no second, and `critical` finds it.
--- Assumes nothing.
 use Prim.Native.Nat.{ℕ, zero, suc, _+_, _≤_, _<_}
 use mathlib.Core.Path.{_≡_, refl, sym, _∙_, ap, ap₂}
 use mathlib.Core.Bool.{Bool, true, false, false≢true}
@@ -9,10 +8,9 @@ use mathlib.Core.Logic.{inl, inr, ⊎-elim}
 use native.Mathlib.Omega.{arith}
 use native.Mathlib.Decide.{decLe, decLt}
 use native.Mathlib.Nat.{eq-or-lt-of-le}
-use lib.ListN.{length}
 use borrow.Author.Tests.{eq-eqb, eqb-true}
 use Rattle.model.specs.Machine.{Machine, count}
-use Rattle.model.specs.Legal.{Pair, Within, total, cost, asked, IsRequestBound}
+use Rattle.model.specs.Legal.{Pair, Within, total, cost, requested, IsRequestBound}
 use Rattle.model.specs.Reckon.{begins?, most, pair, open?, after, gain, best, request}
 use Rattle.model.specs.Critical.{Before, NotAfter, Reaches, IsCritical}
 use Rattle.model.specs.Search.{smallestBelow}
@@ -21,7 +19,7 @@ use Rattle.model.proofs.Tests.{both-true, cond-cases}
 use Rattle.model.proofs.Most.{most-above, most-at}
 use Rattle.model.proofs.Smallest.{Smallest, smallest-is, smallest-unique}
 use Rattle.model.proofs.Largest.{largest-unique}
-use Rattle.model.proofs.Onward.{Onward, onward-sooner, onward-length, legal-onward, onward-legal}
+use Rattle.model.proofs.Onward.{Onward, onward-sooner, legal-onward, onward-legal}
 use Rattle.model.proofs.Best.{best-upper}
 use Rattle.model.proofs.Bounds.{request-is}
 
@@ -46,8 +44,8 @@ notAfter-both (p ∷ σ) (r ∷ τ) (inr a) (inl b) = absurd (before-self r p (s
 notAfter-both (p ∷ σ) (r ∷ τ) (inr a) (inr b) = ap₂ _∷_ (a .0) (notAfter-both σ τ (a .1) (b .1))
 
 -- so there is no second one
-pub critical-unique : (m : Machine) (s f : ℕ) (σ τ : List Pair) → IsCritical m s f σ → IsCritical m s f τ → σ ≡ τ
-critical-unique m s f σ τ a b = notAfter-both σ τ (a .first τ (b .reaches)) (b .first σ (a .reaches))
+pub sequence-unique : (m : Machine) (s f : ℕ) (σ τ : List Pair) → IsCritical m s f σ → IsCritical m s f τ → σ ≡ τ
+sequence-unique m s f σ τ a b = notAfter-both σ τ (a .first τ (b .reaches)) (b .first σ (a .reaches))
 
 -- one tick of the search
 module _ (m : Machine) (w : Pair → ℕ) (t n : ℕ) (from : ℕ → Bool) where
@@ -141,13 +139,13 @@ module _ (m : Machine) (ok : Pair → Type 0) (w : Pair → ℕ) where
             record {
               goes = (l, o, omega arith, fits (pair i t) a (omega arith), good (after m i) .goes);
               all = omega (arith, good (after m i) .all);
-              first = begun q;
+              first = starting q;
             }
           where
-            begun : w (pair i t) + rest (after m i) ≡ best m w t (suc n) from → (τ : List Pair) → Onward m ok from t τ
+            starting : w (pair i t) + rest (after m i) ≡ best m w t (suc n) from → (τ : List Pair) → Onward m ok from t τ
                 → total w τ ≡ best m w t (suc n) from → NotAfter (pair i t ∷ next (after m i)) τ
-            begun q [] r e = absurd (omega (arith, positive (pair i t) l))
-            begun q (p ∷ τ) (j, o, d, k, r) e =
+            starting q [] r e = absurd (omega (arith, positive (pair i t) l))
+            starting q (p ∷ τ) (j, o, d, k, r) e =
                 ⊎-elim
                 (λ z.
                 let same : w p ≡ w (pair (p .action) t) = ap (λ u. w (pair (p .action) u)) (sym z) in
@@ -177,21 +175,13 @@ module _ (m : Machine) (ok : Pair → Type 0) (w : Pair → ℕ) where
 reaches-onward : (m : Machine) (s f : ℕ) (σ : List Pair) → Reaches m s f σ → Onward m (Within s f) (begins? m) s σ
 reaches-onward m s f σ h = legal-onward m (Within s f) s (λ p k. k .0) σ (h .legal) (h .within)
 
--- a window has room for one pair a tick
-pub critical-length : (m : Machine) (s n f : ℕ) (σ : List Pair) → s + n ≡ f → IsCritical m s f σ → length σ ≤ n
-critical-length m s n f σ e c =
-    omega (
-      arith,
-      onward-length m (Within s f) f (λ p k. k .1) (begins? m) s σ (omega arith) (reaches-onward m s f σ (c .reaches)),
-    )
-
 -- where costs are at least 1, `critical` finds it, and it is empty where the bound is 0
 module _ (m : Machine) (positive : (k : ℕ) → k < count m → 0 < cost m k) where
   pub critical-is : (s n f : ℕ) → s + n ≡ f → IsCritical m s f (critical m s n)
   unfolding critical request
   critical-is s n f e =
-      let found : Good m (Within s f) (asked m) s n (begins? m) (critical m s n) =
-      firstBest-good m (Within s f) (asked m) s f (λ p k l. absurd (omega arith)) (λ p a b. (a, b))
+      let found : Good m (Within s f) (requested m) s n (begins? m) (critical m s n) =
+      firstBest-good m (Within s f) (requested m) s f (λ p k l. absurd (omega arith)) (λ p a b. (a, b))
       (λ p. positive (p .action)) s n (begins? m) (omega arith) e in
       let (a, b) = onward-legal m (Within s f) s (critical m s n) (found .goes) in
       record {

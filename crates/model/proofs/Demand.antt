@@ -1,6 +1,5 @@
 -- The demand bound from the front: where each deadline ends no later than the machine's next instant, only what is
 -- triggered at the last instant of a window can be undue, and one row of request figures tells the demand.
--- Assumes nothing.
 use Prim.Native.Nat.{ℕ, zero, suc, _+_, _-_, _≤_, _<_, max}
 use mathlib.Core.Path.{_≡_, refl, sym, _∙_, ap, ap₂, fun-ext}
 use mathlib.Core.Bool.{Bool, true, false, cond, _&&_}
@@ -12,7 +11,7 @@ use lib.Dec.{leb}
 use borrow.Author.Tests.{eq-eqb}
 use Rattle.model.specs.declared.Way.the-variants.{On}
 use Rattle.model.specs.Machine.{Machine, count, actionOf}
-use Rattle.model.specs.Legal.{Pair, asked, askedBy}
+use Rattle.model.specs.Legal.{Pair, requested, demanded}
 use Rattle.model.specs.Reckon.{instant?, begins?, most, pair, demand}
 use Rattle.model.specs.Inside.{Closed, Separate, may?, into?, brings, ends, figure, IsRow, LastInstant, dueThen}
 use Rattle.model.proofs.Tests.{both-true, cond-cases, cond-cong}
@@ -108,17 +107,17 @@ late-idle true false v u top h = omega (arith, h refl)
 late-idle false due v u top h = refl
 
 pushes-due : (m : Machine) → Closed m → (t end : ℕ) (row : ℕ → ℕ) (k : ℕ)
-    → max (most (m .states) row) (pushes m (askedBy m end) t row k) ≡ max (most (m .states) row) (dueThen m t end row k)
+    → max (most (m .states) row) (pushes m (demanded m end) t row k) ≡ max (most (m .states) row) (dueThen m t end row k)
 pushes-due m c t end row k =
     let q = actionOf m k .source in
-    late-idle (may? m t k) (leb (t + actionOf m k .deadline) end) (row q) (asked m (pair k t)) _
+    late-idle (may? m t k) (leb (t + actionOf m k .deadline) end) (row q) (requested m (pair k t)) _
     (λ o. most-above (m .states) row q (closed-inside c q (both-true (begins? m q) _ o .0)))
 
 module _ (m : Machine) (c : Closed m) (apart : Separate m) where
   module _ (s n k : ℕ) (last : LastInstant m s n k) where
     -- all that is triggered before the last instant is due by the end, and nothing that is triggered after it
     due-before : (i u : ℕ) → i < count m → u < k → instant? m i (s + u) ≡ true
-        → askedBy m (s + n) (pair i (s + u)) ≡ asked m (pair i (s + u))
+        → demanded m (s + n) (pair i (s + u)) ≡ requested m (pair i (s + u))
     due-before i u l b y =
         askedBy-due m (s + n) (pair i (s + u))
         (⊎-elim (λ z. absurd (omega arith))
@@ -129,13 +128,13 @@ module _ (m : Machine) (c : Closed m) (apart : Separate m) where
         (last .some))
 
     due-after : (i u : ℕ) → i < count m → k < u → u ≤ n → may? m (s + u) i ≡ true
-        → askedBy m (s + n) (pair i (s + u)) ≡ 0
+        → demanded m (s + n) (pair i (s + u)) ≡ 0
     due-after i u l a b y =
         ⊎-elim (λ e. askedBy-late m (s + n) (pair i (s + u)) (omega (arith, apart .positive i l)))
         (λ d. absurd (last .none i u l a d y)) (eq-or-lt-of-le b)
 
   -- the demand bound from the figures at the last instant
-  demand-ends : (s n k : ℕ) → LastInstant m s n k → let row = ends m (asked m) s k in
+  demand-ends : (s n k : ℕ) → LastInstant m s n k → let row = ends m (requested m) s k in
       demand m s n ≡ max (most (m .states) row) (most (count m) (dueThen m (s + k) (s + n) row))
   unfolding demand
   demand-ends s n k last =
@@ -144,14 +143,14 @@ module _ (m : Machine) (c : Closed m) (apart : Separate m) where
       (λ i u l a b. due-after s n k last i u l a (omega arith))
       ∙ top-moved m w c s k
       ∙ ap (λ row. max (most (m .states) row) (most (count m) (pushes m w (s + k) row)))
-      (fun-ext (ends-cong m w (asked m) s k (due-before s n k last)))
-      ∙ most-max (count m) _ _ _ (λ i l. pushes-due m c (s + k) (s + n) (ends m (asked m) s k) i)
+      (fun-ext (ends-cong m w (requested m) s k (due-before s n k last)))
+      ∙ most-max (count m) _ _ _ (λ i l. pushes-due m c (s + k) (s + n) (ends m (requested m) s k) i)
     where
       w : Pair → ℕ
-      w = askedBy m (s + n)
+      w = demanded m (s + n)
 
   -- the same of a row in memory
-  pub demand-front : (s n k : ℕ) (row : List ℕ) → LastInstant m s n k → IsRow m (asked m) s k row
+  pub demand-front : (s n k : ℕ) (row : List ℕ) → LastInstant m s n k → IsRow m (requested m) s k row
       → demand m s n ≡ max (most (m .states) (figure row)) (most (count m) (dueThen m (s + k) (s + n) (figure row)))
   demand-front s n k row last h =
       demand-ends s n k last
@@ -161,7 +160,7 @@ module _ (m : Machine) (c : Closed m) (apart : Separate m) where
       cond-cong (may? m (s + k) i && leb (s + k + actionOf m i .deadline) (s + n)) _ _ (λ e.
       let (o, d) = both-true (may? m (s + k) i) _ e in
       let (b, x) = both-true (begins? m (actionOf m i .source)) _ o in
-      ap (λ v. v + asked m (pair i (s + k))) (h .at (actionOf m i .source) (closed-inside c _ b))))))
+      ap (λ v. v + requested m (pair i (s + k))) (h .at (actionOf m i .source) (closed-inside c _ b))))))
 
 -- the last instant, as a loop over the lengths keeps it
 pub last-start : (m : Machine) (s : ℕ) → LastInstant m s 0 0

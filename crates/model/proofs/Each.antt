@@ -1,5 +1,4 @@
 -- What holds of each pair of a sequence: of the same pairs with less asked, and of one pair more.
--- Assumes nothing.
 use mathlib.Core.List.{List, [], _∷_, _++_}
 use Rattle.model.specs.Legal.{Pair, Each}
 

@@ -1,6 +1,5 @@
 -- The two forms agree: nothing late is queued in any legal run exactly where, counted in units, every triggered action
 -- is finished by its deadline.
--- Assumes nothing.
 use Prim.Native.Nat.{ℕ, zero, suc, _+_, _≤_, _<_}
 use mathlib.Core.Path.{_≡_, refl}
 use mathlib.Core.Bool.{_&&_}

@@ -1,11 +1,11 @@
 -- What a machine triggered since a tick, in a run: a legal sequence that grows at its end.
--- Assumes nothing.
 use Prim.Native.Nat.{ℕ, suc, _+_, _≤_, _<_}
 use mathlib.Core.Path.{_≡_, refl}
 use mathlib.Core.List.{List, [], _∷_, _++_}
 use native.Mathlib.Omega.{arith}
 use Rattle.model.specs.Machine.{Machine, count, actionOf}
-use Rattle.model.specs.Legal.{Instant, MayBegin, Pair, Taken, Chain, Legal, Each, Within, total, asked, askedBy}
+use Rattle.model.specs.Legal.{Instant, MayBegin, Pair, Taken, Chain, Legal, Each, Within, total}
+use Rattle.model.specs.Legal.{requested, demanded}
 use Rattle.model.specs.Reckon.{pair}
 use Rattle.model.specs.Run.{Seat, Choice, rest, fire, Allowed, trigger}
 use Rattle.model.specs.Inside.{Closed, Separate}
@@ -51,7 +51,7 @@ module _ (m : Machine) where
   DueBy e p = p .instant + actionOf m (p .action) .deadline ≤ e
 
   -- of a sequence that is due by e, all counts in the demand
-  pub due-asked : (e : ℕ) (l : List Pair) → Each (DueBy e) l → total (askedBy m e) l ≡ total (asked m) l
+  pub due-asked : (e : ℕ) (l : List Pair) → Each (DueBy e) l → total (demanded m e) l ≡ total (requested m) l
   due-asked e [] h = refl
   due-asked e (p ∷ l) (h, hs) = omega (arith, askedBy-due m e p h, due-asked e l hs)
 
@@ -70,7 +70,7 @@ pub record Since (m : Machine) (s t q : ℕ) (l : List Pair) (load : ℕ) : Type
   pub within : Each (Within s t) l
   pub ends : EndsIn m l q
   pub begins : MayBegin m q
-  pub enough : load ≤ total (asked m) l
+  pub enough : load ≤ total (requested m) l
 
 module _ (m : Machine) (s t : ℕ) where
   pub since-begin : (q : ℕ) → MayBegin m q → Since m s t q [] 0
@@ -96,7 +96,7 @@ module _ (m : Machine) (s t : ℕ) where
             (h, omega arith);
         ends = ends-snoc m l (pair k t);
         begins = C .onward k (a .known) (rw (a .leaves) (S .begins));
-        enough = omega (arith, total-snoc m (asked m) l (pair k t));
+        enough = omega (arith, total-snoc m (requested m) l (pair k t));
       }
 
   -- what was triggered before an instant of the machine is due by the deadline of what is triggered then

@@ -1,5 +1,4 @@
 -- The largest total of some sequences: there is one such number, and it grows with the sequences and with the weights.
--- Assumes nothing.
 use Prim.Native.Nat.{ℕ, _≤_}
 use mathlib.Core.Path.{_≡_, sym, _∙_}
 use mathlib.Core.List.{List, [], _∷_}

@@ -1,5 +1,4 @@
 -- The largest of the first n figures: it is above each, at most whatever is above each, and 0 or one of them.
--- Assumes nothing.
 use Prim.Native.Nat.{ℕ, zero, suc, _≤_, _<_, max}
 use mathlib.Core.Path.{_≡_, refl, sym, _∙_, ap, ap₂}
 use mathlib.Core.Logic.{_⊎_, inl, inr, ⊎-elim}

@@ -1,24 +1,22 @@
 -- The laws of the names that stand for a rule of the exchange: Instant, MayBegin, cost, divisor, hyperperiod.
 -- No other law looks behind these names or the tests of the first two; only Numbers, with P1 to P12, and Worked compute
 -- with them.
--- Assumes nothing.
 use Prim.Native.Nat.{ℕ, _+_, _-_, _/_, _%_, _≤_, _<_, _∣_}
 use mathlib.Core.Path.{_≡_}
 use mathlib.Core.Bool.{true, false}
-use mathlib.Core.List.{List}
 use mathlib.Core.Logic.{_↔_, ⊎-elim, Iff·trans, Iff·symm}
 use native.Mathlib.Omega.{arith}
 use native.Mathlib.Nat.{div-add-mod', dvd-mul-left, mod-eq-zero-of-dvd, dvd-of-mod-eq-zero}
 use native.Mathlib.Nat.{dvd-add-iff-left, dvd-sub, dvd-trans, le-of-dvd}
 use lib.Dec.{eqb}
 use borrow.Author.Tests.{eq-eqb, eqb-true, lt-ltb, ltb-true}
-use Rattle.number.proofs.Divide.{gcdOf-is, lcmOf-is}
-use Rattle.model.specs.Machine.{Machine, count, actionOf, machineOf, periods, divisor, allPeriods, hyperperiod}
+use Rattle.number.proofs.Divide.{gcdOf-is}
+use Rattle.model.specs.Machine.{Machine, count, actionOf, periods, divisor}
 use Rattle.model.specs.Legal.{Instant, MayBegin, cost}
 use Rattle.model.specs.Reckon.{instant?, begins?}
 use Rattle.model.specs.Inside.{Repeats, Closed, Separate}
 use Rattle.model.proofs.Tests.{true-or-false}
-use Rattle.model.proofs.Periods.{periods-each, all-periods-each}
+use Rattle.model.proofs.Periods.{periods-each}
 
 -- what is read of a sheet to tell a cost, and whether there is an instant
 pub cost-read : {time : ℕ} (m : Machine) (k : ℕ) → time ≡ actionOf m k .time → time ≡ cost m k
@@ -92,16 +90,6 @@ pub off-divisor : (m : Machine) (k t : ℕ) → k < count m → (t % divisor m �
 off-divisor m k t l h =
     instant?-false m k t (λ i.
     h (mod-eq-zero-of-dvd (divisor m) (dvd-trans (divisor m) (divisor-divides m k l) (instant-divides m k t .0 i))))
-
--- the hyperperiod is a multiple of each period of the sheet, so that every machine's instants come again
-pub hyperperiod-repeats : (ms : List Machine)
-    → ((i k : ℕ) → k < count (machineOf ms i) → 0 < actionOf (machineOf ms i) k .period)
-    → (i : ℕ) → Repeats (machineOf ms i) (hyperperiod ms)
-unfolding hyperperiod
-hyperperiod-repeats ms positive i =
-    multiple-repeats (machineOf ms i) (hyperperiod ms)
-    (all-periods-each (λ a. a ∣ hyperperiod ms) ms .0
-    (lcmOf-is (allPeriods ms) (all-periods-each (λ a. 0 < a) ms .1 positive) .multiple) i)
 
 -- what Closed says, of the tests
 pub closed-inside : {m : Machine} → Closed m → (q : ℕ) → begins? m q ≡ true → q < m .states

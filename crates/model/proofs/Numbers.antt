@@ -1,6 +1,5 @@
 -- P1 to P12: one test of the whole table, which the prover computes, and one law that the test tells the truth. And what
 -- keeping only the least gap between events would miss: no window of 41 ticks asks for more than 13.
--- Assumes nothing.
 use Prim.Native.Nat.{ℕ, zero, suc, _+_, _-_, _%_, _≤_, _<_}
 use mathlib.Core.Path.{_≡_, refl, sym, _∙_, ap}
 use mathlib.Core.Bool.{Bool, true, _&&_}
@@ -13,7 +12,7 @@ use lib.Dec.{eqb, leb}
 use borrow.Author.Tests.{leb-true, eqb-true}
 use Rattle.model.specs.declared.Way.the-variants.{On}
 use Rattle.model.specs.Machine.{Machine, actionOf}
-use Rattle.model.specs.Legal.{Pair, cost, asked, askedBy, IsRequestBound}
+use Rattle.model.specs.Legal.{Pair, cost, requested, demanded, IsRequestBound}
 use Rattle.model.specs.Reckon.{instant?, begins?, most, best, request, demand}
 use Rattle.model.specs.Inside.{Repeats, Closed, moved, figure, IsRow}
 use Rattle.model.specs.Numbers.{machine1, Number, requestOf, demandOf, numbers, Right, AllRight}
@@ -61,8 +60,8 @@ top-best m w c s n = row-best m w s c n (rowOf m w s n) (rowOf-is m w c s n)
 
 -- the test, row by row
 right? : Machine → Number → Bool
-right? m (requestOf s f v) = leb s f && eqb (top m (asked m) s (f - s)) v
-right? m (demandOf s t v) = leb s t && eqb (top m (askedBy m (s + (t - s))) s (suc (t - s))) v
+right? m (requestOf s f v) = leb s f && eqb (top m (requested m) s (f - s)) v
+right? m (demandOf s t v) = leb s t && eqb (top m (demanded m (s + (t - s))) s (suc (t - s))) v
 
 allRight? : Machine → List Number → Bool
 allRight? m [] = true
@@ -72,11 +71,11 @@ right?-law : (m : Machine) → Closed m → (r : Number) → right? m r ≡ true
 unfolding right? request demand
 right?-law m c (requestOf s f v) t =
     let (l, e) = both-true (leb s f) _ t in
-    rw (sym (eqb-true _ v e) ∙ top-best m (asked m) c s (f - s))
+    rw (sym (eqb-true _ v e) ∙ top-best m (requested m) c s (f - s))
     (request-is m s (f - s) f (omega (arith, leb-true s f l)))
 right?-law m c (demandOf s f v) t =
     let (l, e) = both-true (leb s f) _ t in
-    rw (sym (eqb-true _ v e) ∙ top-best m (askedBy m (s + (f - s))) c s (suc (f - s)))
+    rw (sym (eqb-true _ v e) ∙ top-best m (demanded m (s + (f - s))) c s (suc (f - s)))
     (demand-is m s (f - s) f (omega (arith, leb-true s f l)))
 
 allRight?-law : (m : Machine) → Closed m → (rs : List Number) → allRight? m rs ≡ true → AllRight m rs
@@ -108,7 +107,7 @@ allBelow?-law (suc n) f t j l =
 
 -- the 41 ticks from s on ask for at most 13
 few? : ℕ → Bool
-few? s = leb (top machine1 (asked machine1) s 41) 13
+few? s = leb (top machine1 (requested machine1) s 41) 13
 
 few?-all : allBelow? 200 few? ≡ true
 unfolding allBelow? few? top rowOf listed most instant? begins? cost
@@ -130,12 +129,12 @@ unfolding few? request
 window-of-41 s v b =
     let r = s % 200 in
     let e : v ≡ request machine1 s 41 = largest-unique b (request-is machine1 s 41 (s + 41) refl) in
-    let few : top machine1 (asked machine1) r 41 ≤ 13 =
+    let few : top machine1 (requested machine1) r 41 ≤ 13 =
     leb-true _ 13 (allBelow?-law 200 few? few?-all r (mod-lt s (omega arith))) in
     omega (
       arith,
       e,
       few,
       request-remainder machine1 200 machine1-repeats s 41,
-      top-best machine1 (asked machine1) machine1-closed r 41,
+      top-best machine1 (requested machine1) machine1-closed r 41,
     )

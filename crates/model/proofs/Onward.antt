@@ -1,12 +1,10 @@
 -- Legal sequences in the form in which the reckoning takes them: from a state of a set, from a tick on.
--- Assumes nothing.
-use Prim.Native.Nat.{ℕ, suc, _+_, _≤_, _<_}
+use Prim.Native.Nat.{ℕ, suc, _≤_, _<_}
 use mathlib.Core.Path.{_≡_, refl}
 use mathlib.Core.Bool.{Bool, true}
 use mathlib.Core.List.{List, [], _∷_}
 use native.Mathlib.Omega.{arith}
 use lib.Dec.{eqb}
-use lib.ListN.{length}
 use borrow.Author.Tests.{eq-eqb, eqb-true}
 use Rattle.model.specs.Machine.{Machine, count, actionOf}
 use Rattle.model.specs.Legal.{Pair, Chain, Legal, Each}
@@ -29,13 +27,6 @@ module _ (m : Machine) (ok : Pair → Type 0) where
   pub onward-sooner : (from : ℕ → Bool) (t : ℕ) (σ : List Pair) → Onward m ok from (suc t) σ → Onward m ok from t σ
   onward-sooner from t [] h = tt
   onward-sooner from t (p ∷ σ) (i, o, a, k, r) = (i, o, omega arith, k, r)
-
-  -- a window has room for one pair a tick
-  pub onward-length : (f : ℕ) → ((p : Pair) → ok p → p .instant < f) → (from : ℕ → Bool) (t : ℕ) (σ : List Pair) → t ≤ f
-      → Onward m ok from t σ → t + length σ ≤ f
-  onward-length f ends from t [] l h = omega arith
-  onward-length f ends from t (p ∷ σ) l (i, o, a, k, r) =
-      omega (arith, onward-length f ends (after m (p .action)) (suc (p .instant)) σ (ends p k) r)
 
   -- what leaves a state of a set leaves the set, and what leaves a set leaves the source of its first pair
   pub onward-wider : (from : ℕ → Bool) (q t : ℕ) (σ : List Pair) → from q ≡ true → Onward m ok (eqb q) t σ

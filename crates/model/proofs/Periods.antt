@@ -1,5 +1,4 @@
 -- What holds of each period of a list of periods holds of the period of each action, and the other way round.
--- Assumes nothing.
 use Prim.Native.Nat.{ℕ, zero, suc, _<_}
 use mathlib.Core.List.{List, [], _∷_, map}
 use mathlib.Core.Logic.{_↔_}

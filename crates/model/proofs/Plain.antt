@@ -1,5 +1,4 @@
 -- The plain reckoner: an action is best triggered at its first instant, so that asking each action comes to the bound.
--- Assumes nothing.
 use Prim.Native.Nat.{ℕ, zero, suc, _+_, _≤_, _<_, max}
 use mathlib.Core.Path.{_≡_, refl, _∙_, ap, ap₂}
 use mathlib.Core.Bool.{Bool, true, false, cond, _&&_}
@@ -7,9 +6,9 @@ use mathlib.Core.Logic.{⊎-elim}
 use native.Mathlib.Omega.{arith}
 use native.Mathlib.Nat.{le-antisymm, eq-or-lt-of-le}
 use Rattle.model.specs.Machine.{Machine, count, actionOf}
-use Rattle.model.specs.Legal.{Instant, Pair, asked}
-use Rattle.model.specs.Reckon.{instant?, begins?, most, pair, after, gain, best, request}
-use Rattle.model.specs.Inside.{atFirst, asks}
+use Rattle.model.specs.Legal.{Instant, Pair}
+use Rattle.model.specs.Reckon.{instant?, most, pair, after, gain, best}
+use Rattle.model.specs.Inside.{atFirst, asksFrom}
 use Rattle.model.proofs.Names.{instant?-law, instant?-false}
 use Rattle.model.proofs.Most.{most-below, most-cong, most-both}
 
@@ -32,7 +31,7 @@ module _ (m : Machine) (w : Pair → ℕ) (still : (k t u : ℕ) → w (pair k t
   atFirst-upper t (suc n) k u =
       now-upper (instant? m k t) _ _ _ (omega (arith, still k t u)) (omega (arith, atFirst-upper (suc t) n k u))
 
-  pub asks-best : (t n : ℕ) (from : ℕ → Bool) → most (count m) (asks m w t n from) ≡ best m w t n from
+  pub asks-best : (t n : ℕ) (from : ℕ → Bool) → most (count m) (asksFrom m w t n from) ≡ best m w t n from
   unfolding atFirst best
   asks-best t zero from =
       le-antisymm
@@ -41,13 +40,8 @@ module _ (m : Machine) (w : Pair → ℕ) (still : (k t u : ℕ) → w (pair k t
   asks-best t (suc n) from =
       most-cong (count m) _ _ (λ k l.
       now-or-later (from (actionOf m k .source)) (instant? m k t) _ _ (atFirst-upper (suc t) n k t))
-      ∙ most-both (count m) (asks m w (suc t) n from) (gain m w t (best m w (suc t) n) from)
+      ∙ most-both (count m) (asksFrom m w (suc t) n from) (gain m w t (best m w (suc t) n) from)
       ∙ ap (λ v. max v (most (count m) (gain m w t (best m w (suc t) n) from))) (asks-best (suc t) n from)
-
--- the request bound: each action asked from every state that a first pair may leave
-pub asks-request : (m : Machine) (s n : ℕ) → most (count m) (asks m (asked m) s n (begins? m)) ≡ request m s n
-unfolding request
-asks-request m s n = asks-best m (asked m) (λ k t u. refl) s n (begins? m)
 
 module _ (m : Machine) (w : Pair → ℕ) (k : ℕ) where
   -- without an instant in the window it brings nothing

@@ -1,5 +1,4 @@
 -- The work that is left in queues: what triggers add to it, and that a tick does one unit of it, if there is any.
--- Assumes nothing.
 use Prim.Native.Nat.{ℕ, zero, suc, pred, _+_}
 use mathlib.Core.Path.{_≡_, refl, ap, _∙_}
 use mathlib.Core.List.{List, [], _∷_, _++_}

@@ -1,5 +1,4 @@
 -- A row of figures in memory: where it starts, how a tick moves it on, and which bound it tells.
--- Assumes nothing.
 use Prim.Native.Nat.{ℕ, _+_, _*_, _≤_, _<_}
 use mathlib.Core.Path.{_≡_, refl, _∙_}
 use mathlib.Core.List.{List}
@@ -7,7 +6,7 @@ use native.Mathlib.Omega.{arith}
 use native.Mathlib.Numerals.{add-one}
 use Rattle.model.specs.declared.Way.the-variants.{On}
 use Rattle.model.specs.Machine.{Machine, count}
-use Rattle.model.specs.Legal.{Pair, cost, asked}
+use Rattle.model.specs.Legal.{Pair, cost, requested}
 use Rattle.model.specs.Reckon.{begins?, most, best, request}
 use Rattle.model.specs.Inside.{Closed, ends, figure, IsRow, IsMoved}
 use Rattle.model.proofs.Most.{most-cong}
@@ -37,10 +36,10 @@ module _ (m : Machine) (w : Pair → ℕ) (s : ℕ) where
       → most (m .states) (figure row) ≡ best m w s n (begins? m)
   row-best c n row h = most-cong (m .states) (figure row) (ends m w s n) (h .at) ∙ ends-best m w c s n
 
-module _ (m : Machine) (s n : ℕ) (row : List ℕ) (h : IsRow m (asked m) s n row) where
+module _ (m : Machine) (s n : ℕ) (row : List ℕ) (h : IsRow m (requested m) s n row) where
   pub row-request : Closed m → most (m .states) (figure row) ≡ request m s n
   unfolding request
-  row-request c = row-best m (asked m) s c n row h
+  row-request c = row-best m (requested m) s c n row h
 
   pub row-limit : (c : ℕ) → ((k : ℕ) → k < count m → cost m k ≤ c) → (q : ℕ) → q < m .states → figure row q ≤ n * c
-  row-limit c g q l = omega (arith, h .at q l, ends-limit m (asked m) c (λ p. g (p .action)) s n q)
+  row-limit c g q l = omega (arith, h .at q l, ends-limit m (requested m) c (λ p. g (p .action)) s n q)

@@ -1,5 +1,4 @@
 -- No triggered action is ever late on a sheet that Fits.
--- Assumes nothing.
 use mathlib.Core.Path.{_≡_}
 use mathlib.Core.List.{List}
 use Rattle.model.specs.Machine.{Machine}

@@ -1,5 +1,4 @@
 -- The walk over the lengths gives what the definition gives; a length passes where its demand is at most the slack.
--- Assumes nothing.
 use Prim.Native.Nat.{ℕ, zero, suc, pred, _+_, _-_, _≤_}
 use mathlib.Core.Path.{_≡_, refl, _∙_}
 use mathlib.Core.Bool.{Bool, true, false, not}

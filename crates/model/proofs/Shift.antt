@@ -1,5 +1,4 @@
 -- A window moved by a time after which the machine's instants come again, as by a hyperperiod, has the same bounds.
--- Assumes nothing.
 use Prim.Native.Nat.{ℕ, zero, suc, _+_, _-_, _*_, _/_, _%_, _≤_, _<_, max}
 use mathlib.Core.Path.{_≡_, refl, sym, _∙_, ap, ap₂, subst}
 use mathlib.Core.Bool.{Bool}
@@ -7,7 +6,7 @@ use mathlib.Core.Logic.{_↔_, Iff·trans, Iff·rfl, Iff·symm}
 use native.Mathlib.Omega.{arith}
 use native.Mathlib.Nat.{suc-add, mod-add-div'}
 use Rattle.model.specs.Machine.{Machine, count, actionOf}
-use Rattle.model.specs.Legal.{Instant, Pair, asked, askedBy, IsRequestBound, IsDemandBound}
+use Rattle.model.specs.Legal.{Instant, Pair, requested, demanded, IsRequestBound, IsDemandBound}
 use Rattle.model.specs.Reckon.{instant?, begins?, pair, after, best, request, demand}
 use Rattle.model.specs.Inside.{Repeats}
 use Rattle.model.proofs.Tests.{test-same, leb-same}
@@ -39,12 +38,12 @@ module _ (m : Machine) (h : ℕ) (again : Repeats m h) where
 
   pub request-shift : (s n : ℕ) → request m (s + h) n ≡ request m s n
   unfolding request
-  request-shift s n = best-shift (asked m) (asked m) (λ k t. refl) s n (begins? m)
+  request-shift s n = best-shift (requested m) (requested m) (λ k t. refl) s n (begins? m)
 
   pub demand-shift : (s n : ℕ) → demand m (s + h) n ≡ demand m s n
   unfolding demand
   demand-shift s n =
-      best-shift (askedBy m (s + n)) (askedBy m (s + h + n))
+      best-shift (demanded m (s + n)) (demanded m (s + h + n))
       (λ k t.
       let d = actionOf m k .deadline in rw (leb-same (t + h + d) (s + h + n) (t + d) (s + n) (omega arith)))
       s (suc n) (begins? m)

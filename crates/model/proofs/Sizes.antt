@@ -1,5 +1,4 @@
 -- What the sizes of an accepted sheet's machines give: H is positive, and each period divides it.
--- Assumes nothing.
 use Prim.Native.Nat.{ℕ, _≤_, _<_, _∣_}
 use mathlib.Core.List.{List}
 use native.Mathlib.Omega.{arith}

@@ -1,5 +1,4 @@
 -- The smallest number that passes a test: what it is to be that number, and that there is no second.
--- Assumes nothing.
 use Prim.Native.Nat.{ℕ, _<_}
 use mathlib.Core.Path.{_≡_, refl, sym, _∙_, ap}
 use mathlib.Core.Bool.{Bool, true, false, cond, false≢true}

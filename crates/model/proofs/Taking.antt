@@ -1,5 +1,4 @@
 -- Periods taken in one after another: what a loop over a machine's actions, or over the machines, has left to do.
--- Assumes nothing.
 use Prim.Native.Nat.{ℕ, zero, suc, _+_, _≤_, _<_}
 use mathlib.Core.Path.{_≡_, refl, sym, _∙_, ap}
 use mathlib.Core.List.{List, [], _∷_, map}
@@ -11,7 +10,8 @@ use lib.Seq.{drop-cons}
 use Rattle.number.specs.Divide.{Each, fold, gcd, lcm}
 use Rattle.number.proofs.Divide.{fold-append, lcms-rises}
 use Rattle.number.proofs.Each.{each-append, each-drop}
-use Rattle.model.specs.Machine.{Action, Machine, count, actionOf, machineOf, periods, divisor, allPeriods, hyperperiod}
+use Rattle.model.specs.Machine.{Action, Machine, count, actionOf, machineOf, periods, divisor}
+use Rattle.model.specs.Machine.{allPeriods, hyperperiod}
 
 periods-count : (m : Machine) → length (periods m) ≡ count m
 periods-count m = length-map (m .actions) (λ a. a .period)

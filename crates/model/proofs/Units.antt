@@ -1,5 +1,4 @@
 -- Units of work, counted: what an action of a machine brings in a run is what is done of it and what is left of it.
--- Assumes nothing.
 use Prim.Native.Nat.{ℕ, zero, suc, _+_, _≤_, _<_}
 use mathlib.Core.Path.{_≡_, refl}
 use mathlib.Core.Bool.{Bool, true, false, cond, _&&_}

@@ -1,5 +1,4 @@
 -- A sheet Fits where each machine and start has a closing length, and every shorter length passes.
--- Assumes nothing.
 use Prim.Native.Nat.{ℕ, suc, pred, _+_, _≤_, _<_}
 use mathlib.Core.Path.{_≡_, refl, sym, ap, _∙_}
 use mathlib.Core.Bool.{true, not, false≢true}

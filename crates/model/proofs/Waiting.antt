@@ -1,6 +1,5 @@
 -- A machine's unfinished actions against what it triggered since a tick: each was triggered at an instant of its own,
 -- and by the time that it is due, so is all the rest. Ticks and triggers keep this, where nothing is late.
--- Assumes nothing.
 use Prim.Native.Nat.{ℕ, zero, suc, _+_, _≤_, _<_}
 use mathlib.Core.Path.{_≡_}
 use mathlib.Core.List.{List, [], _∷_}

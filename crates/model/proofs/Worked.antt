@@ -1,5 +1,4 @@
 -- Small sheets and runs, worked by computation: a sheet that Fits, PAIR's first instant to its end, a run that is late.
--- Assumes nothing.
 use Prim.Native.Nat.{ℕ, zero, suc, _+_, _≤_, _<_}
 use mathlib.Core.Path.{_≡_, refl, subst}
 use mathlib.Core.Bool.{true}
@@ -7,7 +6,8 @@ use mathlib.Core.List.{List, [], _∷_, _++_}
 use native.Mathlib.Omega.{arith}
 use lib.ListN.{replicate}
 use Rattle.number.specs.Divide.{euclid, gcd, lcm, fold}
-use Rattle.model.specs.Machine.{Machine, action, machine, count, actionOf, machineOf, divisor, allPeriods, hyperperiod}
+use Rattle.model.specs.Machine.{Machine, action, machine, count, actionOf, machineOf, divisor}
+use Rattle.model.specs.Machine.{allPeriods, hyperperiod}
 use Rattle.model.specs.Sizes.{ActionSizes, MachineSizes, Sizes}
 use Rattle.model.specs.Legal.{cost}
 use Rattle.model.specs.Reckon.{instant?, begins?, most, best, request, demand}

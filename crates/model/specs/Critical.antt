@@ -8,7 +8,7 @@ use mathlib.Core.Option.{Option, none, some}
 use mathlib.Core.Logic.{_⊎_}
 use lib.Dec.{eqb}
 use Rattle.model.specs.Machine.{Machine, count}
-use Rattle.model.specs.Legal.{Pair, Legal, Each, Within, total, asked, IsRequestBound}
+use Rattle.model.specs.Legal.{Pair, Legal, Each, Within, total, requested, IsRequestBound}
 use Rattle.model.specs.Reckon.{begins?, pair, open?, after, best}
 use Rattle.model.specs.Search.{smallestBelow}
 
@@ -26,7 +26,7 @@ NotAfter (p ∷ σ) (r ∷ τ) = Before p r ⊎ ((p ≡ r) × NotAfter σ τ)
 pub record Reaches (m : Machine) (s f : ℕ) (σ : List Pair) : Type 0 where
   pub legal : Legal m σ
   pub within : Each (Within s f) σ
-  pub bound : IsRequestBound m s f (total (asked m) σ)
+  pub bound : IsRequestBound m s f (total (requested m) σ)
 
 -- σ is the critical sequence of [s, f): of those that reach the bound, the first
 pub record IsCritical (m : Machine) (s f : ℕ) (σ : List Pair) : Type 0 where
@@ -52,4 +52,4 @@ firstBest m w t (suc n) from =
 
 -- the critical sequence of [s, s + n)
 unfoldable pub critical : Machine → ℕ → ℕ → List Pair
-critical m s n = firstBest m (asked m) s n (begins? m)
+critical m s n = firstBest m (requested m) s n (begins? m)

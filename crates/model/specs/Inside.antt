@@ -12,7 +12,7 @@ use Rattle.model.specs.declared.Way.{Way}
 use Rattle.model.specs.declared.Way.the-variants.{On, Back}
 use Rattle.model.specs.Limits.{longestWindow, lastTick, longestTime}
 use Rattle.model.specs.Machine.{Action, Machine, count, actionOf}
-use Rattle.model.specs.Legal.{Instant, MayBegin, Pair, asked}
+use Rattle.model.specs.Legal.{Instant, MayBegin, Pair, requested}
 use Rattle.model.specs.Reckon.{instant?, begins?, most, pair, open?, after, best}
 
 -- the machine's instants come again after h ticks
@@ -92,7 +92,7 @@ pub record LastInstant (m : Machine) (s n k : ℕ) : Type 0 where
 abbrev pub dueThen : Machine → ℕ → ℕ → (ℕ → ℕ) → ℕ → ℕ
 dueThen m t end row k =
     let due = may? m t k && leb (t + actionOf m k .deadline) end in
-    cond due (row (actionOf m k .source) + asked m (pair k t)) 0
+    cond due (row (actionOf m k .source) + requested m (pair k t)) 0
 
 -- `row` has each state's largest total from it on, with instants in [t, t + n), and 0 where no sequence may begin
 pub record IsBack (m : Machine) (w : Pair → ℕ) (t n : ℕ) (row : List ℕ) : Type 0 where
@@ -105,5 +105,5 @@ atFirst m w t (suc n) k =
     let now = w (pair k t) + best m w (suc t) n (after m k) in cond (instant? m k t) now (atFirst m w (suc t) n k)
 
 -- what action k asks from a state of `from`
-abbrev pub asks : Machine → (Pair → ℕ) → ℕ → ℕ → (ℕ → Bool) → ℕ → ℕ
-asks m w t n from k = cond (from (actionOf m k .source)) (atFirst m w t n k) 0
+abbrev pub asksFrom : Machine → (Pair → ℕ) → ℕ → ℕ → (ℕ → Bool) → ℕ → ℕ
+asksFrom m w t n from k = cond (from (actionOf m k .source)) (atFirst m w t n k) 0

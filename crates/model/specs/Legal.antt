@@ -50,11 +50,11 @@ total w [] = 0
 total w (p ∷ σ) = w p + total w σ
 
 -- in a request each action counts; in a demand only those whose instant plus deadline is at most t
-abbrev pub asked : Machine → Pair → ℕ
-asked m p = cost m (p .action)
+abbrev pub requested : Machine → Pair → ℕ
+requested m p = cost m (p .action)
 
-abbrev pub askedBy : Machine → ℕ → Pair → ℕ
-askedBy m t p = cond (leb (p .instant + actionOf m (p .action) .deadline) t) (cost m (p .action)) 0
+abbrev pub demanded : Machine → ℕ → Pair → ℕ
+demanded m t p = cond (leb (p .instant + actionOf m (p .action) .deadline) t) (cost m (p .action)) 0
 
 -- v is the largest total of the sequences that P holds of: one has it, and none has more
 pub record IsLargest (P : List Pair → Type 0) (w : Pair → ℕ) (v : ℕ) : Type 0 where
@@ -69,8 +69,8 @@ Within s f p = (s ≤ p .instant) × (p .instant < f)
 
 -- v is the request bound of [s, f): of legal sequences with all instants at least s and below f
 abbrev pub IsRequestBound : Machine → ℕ → ℕ → ℕ → Type 0
-IsRequestBound m s f = IsLargest (λ σ. Legal m σ × Each (Within s f) σ) (asked m)
+IsRequestBound m s f = IsLargest (λ σ. Legal m σ × Each (Within s f) σ) (requested m)
 
 -- v is the demand bound of [s, t]: of legal sequences with instants at least s
 abbrev pub IsDemandBound : Machine → ℕ → ℕ → ℕ → Type 0
-IsDemandBound m s t = IsLargest (λ σ. Legal m σ × Each (λ p. s ≤ p .instant) σ) (askedBy m t)
+IsDemandBound m s t = IsLargest (λ σ. Legal m σ × Each (λ p. s ≤ p .instant) σ) (demanded m t)

@@ -4,7 +4,7 @@ use Prim.Native.Nat.{ℕ, zero, suc, _+_, _%_, max}
 use mathlib.Core.Bool.{Bool, cond, _&&_}
 use lib.Dec.{eqb, ltb}
 use Rattle.model.specs.Machine.{Machine, count, actionOf}
-use Rattle.model.specs.Legal.{Pair, asked, askedBy}
+use Rattle.model.specs.Legal.{Pair, requested, demanded}
 
 -- t is an instant of action k, and a first pair may leave q, as tests
 unfoldable pub instant? : Machine → ℕ → ℕ → Bool
@@ -30,9 +30,9 @@ open? m from p = from (actionOf m (p .action) .source) && instant? m (p .action)
 abbrev pub after : Machine → ℕ → ℕ → Bool
 after m k = eqb (actionOf m k .sink)
 
--- what action k brings at t, with what `rest` says of its sink; 0 where it may not be triggered
+-- what action k brings at t, with what `later` says of its sink; 0 where it may not be triggered
 abbrev pub gain : Machine → (Pair → ℕ) → ℕ → ((ℕ → Bool) → ℕ) → (ℕ → Bool) → ℕ → ℕ
-gain m w t rest from k = cond (open? m from (pair k t)) (w (pair k t) + rest (after m k)) 0
+gain m w t later from k = cond (open? m from (pair k t)) (w (pair k t) + later (after m k)) 0
 
 -- the largest total from a state of `from` with instants in [t, t + n): nothing at t, or the best action there
 unfoldable pub best : Machine → (Pair → ℕ) → ℕ → ℕ → (ℕ → Bool) → ℕ
@@ -41,8 +41,8 @@ best m w t (suc n) from = max (best m w (suc t) n from) (most (count m) (gain m 
 
 -- the request bound of [s, s + n)
 unfoldable pub request : Machine → ℕ → ℕ → ℕ
-request m s n = best m (asked m) s n (begins? m)
+request m s n = best m (requested m) s n (begins? m)
 
 -- the demand bound of [s, s + n]
 unfoldable pub demand : Machine → ℕ → ℕ → ℕ
-demand m s n = best m (askedBy m (s + n)) s (suc n) (begins? m)
+demand m s n = best m (demanded m (s + n)) s (suc n) (begins? m)

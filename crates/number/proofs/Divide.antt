@@ -1,11 +1,12 @@
 -- The greatest common divisor and the least common multiple are what their names say: of two numbers first, then of a list.
--- Assumes nothing.
-use Prim.Native.Nat.{ℕ, zero, suc, _+_, _-_, _*_, _/_, _%_, _≤_, _<_, _∣_}
+use Prim.Native.Nat.{ℕ, zero, suc, _-_, _*_, _/_, _%_, _≤_, _<_, _∣_}
 use mathlib.Core.Path.{_≡_, refl, sym, _∙_, ap, subst}
 use mathlib.Core.List.{List, [], _∷_, _++_}
 use native.Mathlib.Nat.{mod-lt, zero-lt-suc, le-refl, not-suc-le-zero, mod-def, le-of-dvd}
-use native.Mathlib.Nat.{dvd-refl, dvd-zero, dvd-trans, dvd-mod-iff, dvd-mul-left, mul-dvd-mul, mul-dvd-mul-left, dvd-of-mul-dvd-mul-right, pos-of-dvd-of-pos, one-dvd}
-use native.Mathlib.Nat.{mul-assoc, mul-comm, mul-sub, mul-zero, zero-mul, mul-pos, mul-right-comm, mul-div-mul-left, div-mul-cancel}
+use native.Mathlib.Nat.{dvd-refl, dvd-zero, dvd-trans, dvd-mod-iff, dvd-mul-left, mul-dvd-mul}
+use native.Mathlib.Nat.{mul-dvd-mul-left, dvd-of-mul-dvd-mul-right, pos-of-dvd-of-pos, one-dvd}
+use native.Mathlib.Nat.{mul-assoc, mul-comm, mul-sub, mul-zero, zero-mul, mul-pos, mul-right-comm}
+use native.Mathlib.Nat.{mul-div-mul-left, div-mul-cancel}
 use native.Mathlib.Omega.{arith}
 use Rattle.number.specs.Divide.{euclid, gcd, lcm, fold, gcdOf, lcmOf, Each, IsGcd, IsLcm}
 

@@ -1,5 +1,4 @@
 -- What holds of each number of a list, of its parts, and of joined lists.
--- Assumes nothing.
 use Prim.Native.Nat.{ℕ, zero, suc}
 use mathlib.Core.List.{List, [], _∷_, _++_}
 use mathlib.Core.Logic.{_↔_}

@@ -1,3 +1,3 @@
-pub mod Found
-pub mod Asking
-pub mod Replied
+pub mod Instants
+pub mod Reckoning
+pub mod Replies

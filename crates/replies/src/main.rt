@@ -2,7 +2,7 @@
 // every reply and every lent word. Standard input: how many questions, then each question (question.rt). Standard
 // output: for each, the reply (replied.rt), and after a call that is lent words these words and the guards around them
 // (words.rt). Numbers are words of 32 bits, little-endian. At a question that is none the program stops.
-mod question;
+mod call;
 mod replied;
 mod words;
 
@@ -21,7 +21,7 @@ fn main() {
     let mut bytes = [0u8; 24 + 4 * 4128];
     let mut answered = 0;
     while answered < questions {
-        if !question::answer_next(&mut sheet, &mut words, &mut bytes) {
+        if !call::answer_next(&mut sheet, &mut words, &mut bytes) {
             return;
         }
         answered += 1;

@@ -1,6 +1,6 @@
 // A reply: six words, which are its number, how many values it has, and four values, 0 where there are fewer. A proper
 // result has number 0; the verdict Open has 13; a refusal has its own number, and its place for values.
-use crate::question::Question;
+use crate::call::Call;
 use reply::Answer;
 use reply::Checked;
 use reply::Refusal;
@@ -10,29 +10,29 @@ use reply::Verdict;
 pub(crate) type Reply = [u32; 6];
 
 // The reply to a question whose call is lent no words.
-pub(crate) fn reply(question: Question, sheet: &[u8]) -> Reply {
+pub(crate) fn reply(question: Call, sheet: &[u8]) -> Reply {
     let machine = question.machine;
     let from = question.from;
     let to = question.to;
     let call = question.call;
     match call {
-        0 => checked(sheet::check(sheet)),
-        1 => answered(bounds::request(sheet, machine, from, to)),
-        2 => answered(bounds::demand(sheet, machine, from, to)),
-        5 => answered(plain::plain(sheet, machine, from, to)),
-        _ => judged(verdict::judge(sheet)),
+        0 => checked(saglubitan::check(sheet)),
+        1 => answered(saglubitan::request(sheet, machine, from, to)),
+        2 => answered(saglubitan::demand(sheet, machine, from, to)),
+        5 => answered(saglubitan::plain(sheet, machine, from, to)),
+        _ => judged(saglubitan::judge(sheet)),
     }
 }
 
 // The reply to a question whose call is lent words, which it may write.
-pub(crate) fn reply_in(question: Question, sheet: &[u8], words: &mut [u32]) -> Reply {
+pub(crate) fn reply_in(question: Call, sheet: &[u8], words: &mut [u32]) -> Reply {
     let machine = question.machine;
     let from = question.from;
     let to = question.to;
     if question.call == 3 {
-        return tabled(bounds::table(sheet, machine, from, to, words));
+        return tabled(saglubitan::table(sheet, machine, from, to, words));
     }
-    answered(critical::critical(sheet, machine, from, to, words))
+    answered(saglubitan::critical(sheet, machine, from, to, words))
 }
 
 fn refused(refusal: Refusal) -> Reply {

@@ -2,7 +2,7 @@
 ghost use mathlib.Core.Path.{_≡_};
 ghost use Prim.Native.Nat.{_+_, _*_, _≤_};
 ghost use lib.ListN.{length};
-use crate::question::Question;
+use crate::call::Call;
 use crate::replied;
 use crate::replied::Reply;
 use libc::STDOUT_FILENO;
@@ -19,14 +19,14 @@ pub(crate) fn write_reply(reply: Reply) -> bool {
 
 // Answers a question whose call is lent the words between the guards; writes the reply, and all words after the call.
 pub(crate) fn answer_in_words(
-    question: Question,
+    question: Call,
     sheet: &[u8],
     words: &mut [u32],
     bytes: &mut [u8],
 ) -> bool
     requires { ⌜ (16 ≤ length (now words)) × (length (now words) ≤ 4128) × (length (now bytes) ≡ 16536) ⌝ }
 {
-    mark(words);
+    guard(words);
     let end = words.len() - GUARDS;
     let reply = replied::reply_in(question, sheet, &mut words[GUARDS..end]);
     let used = 24 + 4 * words.len();
@@ -36,7 +36,7 @@ pub(crate) fn answer_in_words(
 }
 
 // Gives each word a value that tells its place, and that no call writes.
-fn mark(words: &mut [u32])
+fn guard(words: &mut [u32])
     requires { ⌜ length (now words) ≤ 4128 ⌝ }
 {
     let mut k = 0;

@@ -1,5 +1,4 @@
 -- Refusals one after another: laws of `unless`, `orElse` and `otherwise`.
--- Assumes nothing.
 use Prim.Native.Nat.{ℕ, _≤_}
 use mathlib.Core.Path.{_≡_, refl, sym, _∙_, ap}
 use mathlib.Core.Bool.{Bool, true, false, not}
@@ -32,8 +31,8 @@ equal-kept x y r e = ap (λ t. unless t r) (eq-eqb x y e)
 pub enough : (needed lent : ℕ) → rule12 needed lent ≡ none → needed ≤ lent
 enough needed lent e = leb-true needed lent (unless-none _ _ e)
 
-pub orElse-found : {a : Option Refusal} (b : Option Refusal) {r : Refusal} → a ≡ some r → a orElse b ≡ some r
-orElse-found b e = ap (λ x. x orElse b) e
+pub orElse-refused : {a : Option Refusal} (b : Option Refusal) {r : Refusal} → a ≡ some r → a orElse b ≡ some r
+orElse-refused b e = ap (λ x. x orElse b) e
 
 pub orElse-clear : {a : Option Refusal} (b : Option Refusal) → a ≡ none → a orElse b ≡ b
 orElse-clear b e = ap (λ x. x orElse b) e

@@ -1,5 +1,4 @@
 -- No second answer has the same reply: each is read back from it.
--- Assumes nothing.
 use mathlib.Core.Path.{_≡_, refl, sym, _∙_, ap}
 use mathlib.Core.List.{[], _∷_}
 use Rattle.reply.specs.declared.Checked.{Checked}

@@ -4,7 +4,7 @@ use Rattle.reply.specs.declared.Refusal.{Refusal}
 use Rattle.reply.specs.declared.Rule.{Rule}
 use Rattle.reply.specs.declared.Rule.the-variants.{Kept, Broken}
 
--- what a rule's function answers, as its definition has it
-abbrev pub found : Rule → Option Refusal
-found Kept = none
-found (Broken r) = some r
+-- what a rule's function answers, as the paper has it
+abbrev pub paper : Rule → Option Refusal
+paper Kept = none
+paper (Broken r) = some r

@@ -4,4 +4,5 @@ pub mod Checked
 pub mod Answer
 pub mod Tabled
 pub mod Verdict
+pub mod Printed
 pub mod Inside

@@ -50,6 +50,36 @@ pub enum Verdict {
     Refused(Refusal),
 }
 
+// What was printed into lent bytes: the length of the text, and the refusal that it prints, number 0 at place 0, 0
+// where it prints none.
+pub struct Printed {
+    pub length: usize,
+    pub refusal: Refusal,
+}
+
+// What can be asked about a machine and a window.
+pub enum Kind {
+    Request,
+    Demand,
+    Table,
+    Critical,
+    Plain,
+}
+
+// A question. For a table `to` is its length.
+pub struct Question {
+    pub kind: Kind,
+    pub machine: u32,
+    pub from: u32,
+    pub to: u32,
+}
+
+// What the words of a command line ask.
+pub enum Asked {
+    This(Question),
+    Nothing,
+}
+
 // A refusal without a place.
 pub fn placeless(number: u32) -> Refusal
     ensures { λ r. ⌜ r ≡ refusal number 0 0 ⌝ }

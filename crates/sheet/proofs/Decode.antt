@@ -1,5 +1,4 @@
 -- Where the machines and actions of a sheet stand in its bytes.
--- Assumes nothing.
 use Prim.Native.Nat.{ℕ, zero, suc, _+_, _*_, _<_}
 use mathlib.Core.Path.{_≡_, refl, _∙_, ap}
 use mathlib.Core.List.{List}
@@ -7,7 +6,8 @@ use native.Mathlib.Omega.{arith}
 use native.Mathlib.Nat.{not-suc-le-zero, le-of-suc-le-suc}
 use lib.ListN.{length, getD}
 use Rattle.model.specs.Machine.{Action, Machine, count, actionOf, machineOf}
-use Rattle.sheet.specs.Format.{actionSize, actionAt, actionsAt, entry, described, machinesFrom, machineCount, decode}
+use Rattle.sheet.specs.Format.{actionSize, actionAt, actionsAt, entry, described, machinesFrom}
+use Rattle.sheet.specs.Format.{machineCount, decode}
 
 pub actions-count : (b : List ℕ) (at n : ℕ) → length (actionsAt b at n) ≡ n
 unfolding actionsAt

@@ -1,5 +1,4 @@
 -- The sheet PAIR: what its bytes mean, and that P1 to P12 hold of them.
--- Assumes nothing.
 use Prim.Native.Nat.{ℕ}
 use mathlib.Core.Path.{_≡_, refl}
 use mathlib.Core.List.{List, [], _∷_}

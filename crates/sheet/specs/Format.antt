@@ -43,12 +43,17 @@ machineCount b = le32 b (length b - 8)
 abbrev pub lastFour : List ℕ → List ℕ
 lastFour b = drop (length b - 4) b
 
-abbrev pub mark : List ℕ
-mark = 0x53 ∷ 0x46 ∷ 0x53 ∷ 0x31 ∷ []
+abbrev pub sfs1 : List ℕ
+sfs1 = 0x53 ∷ 0x46 ∷ 0x53 ∷ 0x31 ∷ []
 
 -- the entry of machine k
 abbrev pub entry : List ℕ → ℕ → EntryBytes
 entry b k = entryAt b (trailerOffset b + entrySize * k)
+
+-- how many actions the machines before k have
+unfoldable pub actionsBefore : List ℕ → ℕ → ℕ
+actionsBefore b zero = 0
+actionsBefore b (suc k) = actionsBefore b k + entry b k .actions
 
 -- the n actions that stand one after another from `at` on
 unfoldable pub actionsAt : List ℕ → ℕ → ℕ → List Action

@@ -1,4 +1,2 @@
 pub mod Format
-pub mod Rules
-pub mod Check
 pub mod Inside

@@ -69,6 +69,6 @@ pub fn say_refusal(program: &[u8], refusal: Refusal) {
         return;
     }
     let mut line = [0u8; 512];
-    let length = text::explain(program, refusal, &mut line);
+    let length = saglubitan::explain(program, refusal, &mut line);
     say(&line[..length]);
 }

@@ -1,16 +1,15 @@
--- A text in lent bytes: what a call promises of it, from the text that has been put, and that nothing else meets it.
--- Assumes nothing.
+-- A text in lent bytes: what a call promises of it, from the text that has been put.
 use Prim.Native.Nat.{ℕ, _≤_, _<_}
-use mathlib.Core.Path.{_≡_, refl, sym, _∙_, ap, ap₂}
+use mathlib.Core.Path.{_≡_, refl, _∙_, ap}
 use mathlib.Core.List.{List, _++_}
 use mathlib.Core.Option.{Option, none}
 use native.Mathlib.Omega.{arith}
-use native.Mathlib.Decide.{decLe}
 use borrow.Author.Tests.{le-leb, lt-leb}
-use lib.ListN.{length, drop, length-append}
+use lib.ListN.{length, drop}
 use Rattle.reply.specs.declared.Refusal.{Refusal}
-use Rattle.text.specs.declared.Printed.{Printed}
-use Rattle.text.specs.Lent.{handed, printedLength, printedRefusal, printed}
+use Rattle.reply.specs.declared.Printed.{Printed}
+use Rattle.reply.specs.Printed.{handed, printedLength, printedRefusal, printed}
+use Rattle.reply.proofs.Printing.{unprinted, Promised}
 use Rattle.text.specs.Inside.{Put, Prints}
 
 -- a text that has been put at the start is printed
@@ -22,31 +21,6 @@ module _ {text before after : List ℕ} {r : ℕ} (room : ℕ) (lent : room ≤ 
   pub printed-so : (r ≡ printedLength room text before) × (after ≡ printed room text before)
   unfolding printedLength printed
   printed-so = rw (le-leb room (length before) lent) (whole, p .says ∙ ap (λ n. text ++ drop n before) whole)
-
--- too few bytes are left as they were
-pub unprinted : (room : ℕ) (text before : List ℕ) → length before < room
-    → (0 ≡ printedLength room text before) × (before ≡ printed room text before)
-unfolding printedLength printed
-unprinted room text before lent = rw (lt-leb room (length before) lent) (refl, refl)
-
--- a printed text lies within the lent bytes
-pub printed-within : (room : ℕ) (text before : List ℕ) {r : ℕ} {after : List ℕ} → r ≡ printedLength room text before
-    → after ≡ printed room text before → r ≤ length after
-unfolding printedLength printed
-printed-within room text before {r} {after} e p =
-    elim (decLe room (length before)) [
-      | yes l ↦
-          let length-is = rw (le-leb room (length before) l) at e in
-          let memory-is = rw (le-leb room (length before) l) at p in
-          omega (arith, length-is, ap length memory-is, length-append text (drop (length text) before))
-      | no l ↦ let none-put = rw (lt-leb room (length before) (omega arith)) at e in omega (arith, none-put)
-    ]
-
--- what a call promises that makes a text: its length, the refusal that it prints, and the lent bytes afterwards
-abbrev pub Promised : ℕ → List ℕ → Option Refusal → List ℕ → Printed → List ℕ → Type 0
-Promised room text x before r after =
-    (r .length ≡ printedLength room text before)
-    × ((r .refusal ≡ printedRefusal room x before) × (after ≡ printed room text before))
 
 -- what `unrefused` gives
 module _ {n : ℕ} {r : Printed} (e : (r .length ≡ n) × (r .refusal ≡ handed none)) where
@@ -69,18 +43,3 @@ unfolding printedRefusal
 prints-so {before} {x = x} room lent p =
     let (size, memory) = printed-so room lent (p .put) in
     (size, (p .hands ∙ rw (le-leb room (length before) lent) refl, memory))
-
--- a line has one length and one memory
-pub printed-unique : (room : ℕ) (text before : List ℕ) (r q : ℕ) (after other : List ℕ)
-    → r ≡ printedLength room text before → after ≡ printed room text before → q ≡ printedLength room text before
-    → other ≡ printed room text before → (r ≡ q) × (after ≡ other)
-printed-unique room text before r q after other e p g s = (e ∙ sym g, p ∙ sym s)
-
--- a text has one length, one refusal and one memory
-pub promised-unique : (room : ℕ) (text : List ℕ) (x : Option Refusal) (before : List ℕ) (r q : Printed)
-    (after other : List ℕ)
-    → Promised room text x before r after → Promised room text x before q other → (r ≡ q) × (after ≡ other)
-promised-unique room text x before r q after other p s = (
-  ap₂ (λ n y. record { length = n; refusal = y }) (p .0 ∙ sym (s .0)) (p .1 .0 ∙ sym (s .1 .0)),
-  p .1 .1 ∙ sym (s .1 .1),
-)

@@ -1,5 +1,4 @@
 -- A word of digits, read from its front: what a loop over it has left to do.
--- Assumes nothing.
 use Prim.Native.Nat.{ℕ, suc, _+_, _-_, _*_, _≤_, _<_}
 use mathlib.Core.Path.{_≡_, refl}
 use mathlib.Core.Bool.{cond, _&&_}

@@ -7,8 +7,8 @@ use lib.ListN.{length, take, drop}
 use Rattle.reply.specs.declared.Refusal.{Refusal}
 use Rattle.text.specs.declared.Number.{Number}
 use Rattle.text.specs.declared.Number.the-variants.{Value, Malformed}
-use Rattle.text.specs.declared.Printed.{Printed}
-use Rattle.text.specs.Lent.{handed}
+use Rattle.reply.specs.declared.Printed.{Printed}
+use Rattle.reply.specs.Printed.{handed}
 
 -- the text is put at `at`, everything else stays, and the next piece goes to r
 pub record Put (before : List ℕ) (at : ℕ) (text : List ℕ) (r : ℕ) (after : List ℕ) : Type 0 where
@@ -22,7 +22,7 @@ pub record Prints (before text : List ℕ) (x : Option Refusal) (r : Printed) (a
   pub put : Put before 0 text (r .length) after
   pub hands : r .refusal ≡ handed x
 
--- what was read, as its definition has it
-abbrev pub told : Number → Option ℕ
-told (Value n) = some n
-told Malformed = none
+-- what was read, as the paper has it
+abbrev pub paper : Number → Option ℕ
+paper (Value n) = some n
+paper Malformed = none

@@ -1,4 +1,2 @@
 pub mod Text
-pub mod Lent
-pub mod Words
 pub mod Inside

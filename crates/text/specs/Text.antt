@@ -6,6 +6,7 @@ use mathlib.Core.Bool.{cond, _&&_}
 use mathlib.Core.List.{List, [], _∷_, _++_}
 use mathlib.Core.Option.{Option, none, some}
 use lib.Dec.{leb, ltb}
+use Rattle.reply.specs.declared.Refusal.{Refusal}
 
 -- the characters of a quoted text
 abbrev pub ascii : String → List ℕ
@@ -27,16 +28,16 @@ spaced [] = []
 spaced (n ∷ ns) = 32 ∷ decimal n ++ spaced ns
 
 -- numbers, each after a space, and the end of their line
-abbrev pub rest : List ℕ → List ℕ
-rest ns = spaced ns ++ (10 ∷ [])
+abbrev pub lineEnd : List ℕ → List ℕ
+lineEnd ns = spaced ns ++ (10 ∷ [])
 
 -- a word and numbers, as a line of their own
 abbrev pub line : List ℕ → List ℕ → List ℕ
-line word ns = word ++ rest ns
+line word ns = word ++ lineEnd ns
 
 -- numbers, at least one, as a line of their own
-abbrev pub row : ℕ → List ℕ → List ℕ
-row n ns = line (decimal n) ns
+abbrev pub numberLine : ℕ → List ℕ → List ℕ
+numberLine n ns = line (decimal n) ns
 
 -- the number that a word of decimal digits says, the digits so far being v; none for another character, or past 32 bits
 unfoldable pub readFrom : ℕ → List ℕ → Option ℕ
@@ -49,3 +50,7 @@ readFrom v (c ∷ word) =
 unfoldable pub readNumber : List ℕ → Option ℕ
 readNumber [] = none
 readNumber (c ∷ word) = readFrom 0 (c ∷ word)
+
+-- a refusal prints only REFUSED with number and place
+abbrev pub refusedLine : Refusal → List ℕ
+refusedLine r = line (ascii "REFUSED") (r .number ∷ r .first ∷ r .second ∷ [])

@@ -1,19 +1,15 @@
 // Text written into lent bytes, one piece after another: each function puts its piece at `at`, leaves the
-// bytes before it, and answers where the next piece goes. Definitions: specs/Text.antt; of a text
-// in lent bytes and of refusals, specs/Lent.antt and specs/Words.antt.
+// bytes before it, and answers where the next piece goes. Definitions: specs/Text.antt.
 mod refused;
-mod words;
 
 ghost use mathlib.Core.Path.{_≡_};
 ghost use mathlib.Core.List.{[], _∷_};
 ghost use Prim.Native.Nat.{_+_, _*_, _≤_, _<_};
 ghost use lib.ListN.{length};
-ghost use Rattle.text.specs.Text.{decimal, spaced, rest, line, row, readNumber};
-ghost use Rattle.text.specs.Inside.{Put, told};
+ghost use Rattle.text.specs.Text.{decimal, spaced, lineEnd, line, numberLine, readNumber};
+ghost use Rattle.text.specs.Inside.{Put, paper};
 pub use refused::print_refused;
 pub use refused::unrefused;
-use reply::Refusal;
-pub use words::explain;
 
 // What a word says that should be a number.
 pub enum Number {
@@ -21,16 +17,9 @@ pub enum Number {
     Malformed,
 }
 
-// What was printed into lent bytes: the length of the text, and the refusal that it prints, number 0 at place 0, 0
-// where it prints none.
-pub struct Printed {
-    pub length: usize,
-    pub refusal: Refusal,
-}
-
 // Reads a word of decimal digits, at most 4,294,967,295.
 pub fn read_number(word: &[u8]) -> Number
-    ensures { λ r. ⌜ told r ≡ readNumber (now (word .entry)) ⌝ }
+    ensures { λ r. ⌜ paper r ≡ readNumber (now (word .entry)) ⌝ }
 {
     if word.len() == 0 {
         return Number::Malformed;
@@ -105,9 +94,9 @@ pub fn put_spaced(out: &mut [u8], at: usize, numbers: &[u32]) -> usize
 }
 
 // Numbers, each after a space, and the end of their line.
-fn put_rest(out: &mut [u8], at: usize, numbers: &[u32]) -> usize
+fn put_line_end(out: &mut [u8], at: usize, numbers: &[u32]) -> usize
     requires { ⌜ at + (11 * length (now numbers) + 1) ≤ length (now out) ⌝ }
-    ensures { λ r. ⌜ Put (now (out .entry)) at (rest (now (numbers .entry))) r (now (out .exit))
+    ensures { λ r. ⌜ Put (now (out .entry)) at (lineEnd (now (numbers .entry))) r (now (out .exit))
         × (r ≤ at + (11 * length (now (numbers .entry)) + 1)) ⌝ }
 {
     let last = put_spaced(out, at, numbers);
@@ -121,15 +110,15 @@ pub fn put_line(out: &mut [u8], at: usize, word: &[u8], numbers: &[u32]) -> usiz
         × (r ≤ at + (length (now (word .entry)) + (11 * length (now (numbers .entry)) + 1))) ⌝ }
 {
     let next = put_bytes(out, at, word);
-    put_rest(out, next, numbers)
+    put_line_end(out, next, numbers)
 }
 
 // Numbers, at least one, as a line of their own.
-pub fn put_row(out: &mut [u8], at: usize, first: u32, others: &[u32]) -> usize
+pub fn put_number_line(out: &mut [u8], at: usize, first: u32, others: &[u32]) -> usize
     requires { ⌜ at + (11 * length (now others) + 11) ≤ length (now out) ⌝ }
-    ensures { λ r. ⌜ Put (now (out .entry)) at (row first (now (others .entry))) r (now (out .exit))
+    ensures { λ r. ⌜ Put (now (out .entry)) at (numberLine first (now (others .entry))) r (now (out .exit))
         × (r ≤ at + (11 * length (now (others .entry)) + 11)) ⌝ }
 {
     let next = put_decimal(out, at, first);
-    put_rest(out, next, others)
+    put_line_end(out, next, others)
 }

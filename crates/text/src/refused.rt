@@ -1,12 +1,13 @@
-// A text with the refusal that it prints. Definitions: specs/Lent.antt.
+// A text with the refusal that it prints. Definitions: specs/Text.antt, and Printed.antt of `reply`.
 ghost use mathlib.Core.Path.{_≡_};
 ghost use mathlib.Core.Option.{none, some};
 ghost use Prim.Native.Nat.{_≤_};
 ghost use lib.ListN.{length};
-ghost use Rattle.text.specs.Lent.{refusedLine, handed};
+ghost use Rattle.reply.specs.Printed.{handed};
+ghost use Rattle.text.specs.Text.{refusedLine};
 ghost use Rattle.text.specs.Inside.{Prints};
-use crate::Printed;
 use crate::put_line;
+use reply::Printed;
 use reply::Refusal;
 
 // A text that prints no refusal.

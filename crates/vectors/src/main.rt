@@ -9,8 +9,8 @@ use draft::entry;
 use draft::one;
 use draft::pair;
 use draft::pair_with;
+use draft::stay;
 use draft::trailer;
-use draft::turn;
 use draft::two;
 use draft::two_actions;
 use draft::with_byte;
@@ -33,7 +33,7 @@ fn check(what: &[u8], draft: Draft) {
     let used = draft.used;
     let whole: &[u8] = &bytes;
     if used <= whole.len() {
-        let checked = sheet::check(&whole[..used]);
+        let checked = saglubitan::check(&whole[..used]);
         match checked {
             Checked::Accepted {
                 machines,
@@ -78,13 +78,13 @@ fn pairs() {
 
 // Two machines of one action each, their entries still to come.
 fn two_turns() -> Draft {
-    turn(turn(empty(), 2, 1, 1), 2, 1, 1)
+    stay(stay(empty(), 2, 1, 1), 2, 1, 1)
 }
 
 fn orders() {
     check(
         b"rule 7 at machine 1, rule 8 at machine 0",
-        two(turn(empty(), 2, 1, 3), 2, 0, 1),
+        two(stay(empty(), 2, 1, 3), 2, 0, 1),
     );
     let two_entries = entry(entry(two_turns(), 1, 0, 1, 9), 0, 0, 1, 8);
     check(
@@ -98,7 +98,7 @@ fn orders() {
     );
     let at_end = entry(entry(two_turns(), 1, 0, 1, 0), 1, 0, 2, 8);
     check(b"rule 6 at the end alone", trailer(at_end, 16, 2));
-    let third = turn(turn(turn(empty(), 2, 1, 2), 2, 1, 3), 2, 1, 4);
+    let third = stay(stay(stay(empty(), 2, 1, 2), 2, 1, 3), 2, 1, 4);
     check(
         b"rule 8 at two actions of machine 1",
         trailer(entry(entry(third, 1, 0, 1, 0), 1, 0, 2, 8), 24, 2),
@@ -108,29 +108,29 @@ fn orders() {
 fn divisors() {
     check(
         b"periods 4 and 6 in two machines",
-        two(turn(empty(), 4, 1, 4), 6, 1, 6),
+        two(stay(empty(), 4, 1, 4), 6, 1, 6),
     );
     check(
         b"periods 4 and 6 in one machine, deadline 4 first",
-        two_actions(turn(empty(), 4, 1, 4), 6, 1, 2),
+        two_actions(stay(empty(), 4, 1, 4), 6, 1, 2),
     );
     check(
         b"periods 4 and 6 in one machine, deadlines 2",
-        two_actions(turn(empty(), 4, 1, 2), 6, 1, 2),
+        two_actions(stay(empty(), 4, 1, 2), 6, 1, 2),
     );
-    check(b"periods 32 and 64", two(turn(empty(), 32, 1, 1), 64, 1, 1));
+    check(b"periods 32 and 64", two(stay(empty(), 32, 1, 1), 64, 1, 1));
     check(b"period 1024 alone", one(1, 0, 0, 1024, 1, 1024));
     check(
         b"periods 1024 and 3 in two machines",
-        two(turn(empty(), 1024, 1, 1), 3, 1, 1),
+        two(stay(empty(), 1024, 1, 1), 3, 1, 1),
     );
     check(
         b"periods 1024 and 3 in one machine",
-        two_actions(turn(empty(), 1024, 1, 1), 3, 1, 1),
+        two_actions(stay(empty(), 1024, 1, 1), 3, 1, 1),
     );
     check(
         b"periods 1023 and 1024",
-        two(turn(empty(), 1023, 1, 1), 1024, 1, 1),
+        two(stay(empty(), 1023, 1, 1), 1024, 1, 1),
     );
 }
 
@@ -161,16 +161,16 @@ fn times() {
     check(b"deadline above the divisor", one(1, 0, 0, 2, 1, 3));
     check(
         b"period 0 and deadline 0 in machine 1",
-        two(turn(empty(), 2, 1, 1), 0, 1, 0),
+        two(stay(empty(), 2, 1, 1), 0, 1, 0),
     );
 }
 
 // n actions of period 1 after the draft.
-fn turns(draft: Draft, n: u32) -> Draft {
+fn stays(draft: Draft, n: u32) -> Draft {
     let mut all = draft;
     let mut i = 0;
     while i < n {
-        let next = turn(all, 1, 1, 1);
+        let next = stay(all, 1, 1, 1);
         all = next;
         i += 1;
     }
@@ -182,7 +182,7 @@ fn blocks(draft: Draft, machines: u32, actions: u32) -> Draft {
     let mut all = draft;
     let mut i = 0;
     while i < machines {
-        let next = turns(all, actions);
+        let next = stays(all, actions);
         all = next;
         i += 1;
     }
@@ -210,12 +210,12 @@ fn wide(draft: Draft, machines: u32, actions: u32) -> Draft {
 }
 
 fn sizes() {
-    check(b"no machine", trailer(turns(empty(), 2), 16, 0));
+    check(b"no machine", trailer(stays(empty(), 2), 16, 0));
     check(b"8 machines", wide(empty(), 8, 1));
     check(b"9 machines", wide(empty(), 9, 1));
     check(
         b"no action",
-        trailer(entry(turn(empty(), 1, 1, 1), 1, 0, 0, 0), 8, 1),
+        trailer(entry(stay(empty(), 1, 1, 1), 1, 0, 0, 0), 8, 1),
     );
     check(b"32 actions", wide(empty(), 1, 32));
     check(b"33 actions", wide(empty(), 1, 33));

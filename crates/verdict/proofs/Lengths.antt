@@ -1,5 +1,4 @@
 -- The walk of one machine and start over the lengths: what it has come to, and what a length says.
--- Assumes nothing.
 use Prim.Native.Nat.{ℕ, zero, suc, _+_, _-_, _*_, _%_, _≤_, _<_, max}
 use mathlib.Core.Path.{_≡_, refl, sym, _∙_, ap, ap₂}
 use mathlib.Core.Bool.{false}
@@ -8,7 +7,7 @@ use mathlib.Core.Option.{none, some}
 use native.Mathlib.Omega.{arith}
 use native.Mathlib.Numerals.{add-one}
 use native.Mathlib.Nat.{mod-lt, mod-eq-of-lt, mod-add-mod, add-zero}
-use lib.ListN.{length, getD, replicate, length-replicate, getD-replicate}
+use lib.ListN.{length, getD, replicate, getD-replicate}
 use borrow.Author.Tests.{le-leb, lt-leb}
 use Rattle.model.specs.Limits.{longestWindow}
 use Rattle.model.specs.Machine.{machineOf, hyperperiod}
@@ -22,27 +21,28 @@ use Rattle.model.proofs.Added.{added-cong}
 use Rattle.model.proofs.Verdict.{closes-at-most}
 use Rattle.model.proofs.Scan.{scan-gives, scan-closed, scan-late, scan-next, scan-open, passes-slack}
 use Rattle.sheet.specs.Format.{machineCount, decode}
-use Rattle.sheet.proofs.Accepted.{machine-sizes}
+use Rattle.sheet.proofs.Entries.{few-machines, machine-sizes}
 use Rattle.walk.proofs.Mask.{marks-remainder}
 use Rattle.walk.proofs.Front.{row-zeros, last-begin, last-none}
-use Rattle.verdict.specs.declared.Level.{Level}
-use Rattle.verdict.specs.Inside.{LineAt, lineOf, stride, Place, LevelAt, Begun, Ticking, Marked}
-use Rattle.verdict.proofs.Moving.{moved-not}
-use Rattle.verdict.proofs.Half.{largestRequest, request-small, requests-small}
+use Rattle.level.specs.declared.Level.{Level}
+use Rattle.level.specs.Inside.{ProgressAt, progressOf, stride, Phase, LevelAt, Begun, BeforeTick}
+use Rattle.verdict.specs.Inside.{MaskedSheet}
+use Rattle.level.proofs.Moving.{moved-not}
+use Rattle.level.proofs.Half.{largestRequest, request-small, requests-small}
 
--- the lengths up to n are done, and the walk has come to a place
-pub record Walked (b : List ℕ) (i s h n : ℕ) (level : Level) (room place : ℕ) : Type 0 where
+-- the lengths up to n are done, and the walk has come to a phase
+pub record Walked (b : List ℕ) (i s h n : ℕ) (level : Level) (room phase : ℕ) : Type 0 where
   pub stands : LevelAt b i s n level
   pub roomy : room ≡ slack (decode b) i s n
-  pub placed : place ≡ (s + n) % h
+  pub placed : phase ≡ (s + n) % h
   pub left : scan (decode b) i s (suc n) (longestWindow - n) ≡ gives (decode b) i s
 
-module _ {b masks lowest : List ℕ} {h : ℕ} (marked : Marked b masks lowest h) {i : ℕ} (known : i < machineCount b) where
+module _ {b masks lowest : List ℕ} {h : ℕ} (marked : MaskedSheet b masks lowest h) {i : ℕ} (known : i < machineCount b) where
   sizes : MachineSizes (machineOf (decode b) i)
   sizes = machine-sizes (marked .accepted) i known
 
   pub machines-few : i < 8
-  machines-few = omega (arith, known, marked .accepted .sizes .machines .1, marked .accepted .machines)
+  machines-few = omega (arith, known, few-machines (marked .accepted) .1)
 
   pub period-short : h ≤ stride
   period-short = omega (arith, marked .period, marked .accepted .hyperperiod .1)
@@ -50,16 +50,16 @@ module _ {b masks lowest : List ℕ} {h : ℕ} (marked : Marked b masks lowest h
   period-positive : 0 < h
   period-positive = omega (arith, marked .period, marked .accepted .hyperperiod .0)
 
-  -- the masks at the place of a tick mark it
-  pub tick-place : {t place : ℕ} → place ≡ t % h → Place b masks place t
-  tick-place {t} {place} e =
-      let inside : place < h = rw e (mod-lt t period-positive) in
+  -- the masks at the phase of a tick mark it
+  pub tick-phase : {t phase : ℕ} → phase ≡ t % h → Phase b masks phase t
+  tick-phase {t} {phase} e =
+      let inside : phase < h = rw e (mod-lt t period-positive) in
       record {
         inside = omega (arith, period-short);
         at = λ j l.
             marks-remainder h
             (rw (marked .period) (sizes-repeat (decode b) (marked .accepted .sizes) j))
-            (rw (← e) (marked .masked .at j place l (omega (arith, marked .period))));
+            (rw (← e) (marked .masked .at j phase l (omega (arith, marked .period))));
       }
 
   mod-next : (t : ℕ) → (t % h + 1) % h ≡ (t + 1) % h
@@ -73,30 +73,29 @@ module _ {b masks lowest : List ℕ} {h : ℕ} (marked : Marked b masks lowest h
         record {
           stands =
               record {
-                lines =
+                progress =
                     record {
-                      long = ap length (begun .lines);
+                      long = ap length (begun .progress);
                       at = λ j u.
-                          rw (begun .lines, getD-replicate 8 j _ _ (omega (arith, machines-few)))
-                          (line-zero j (omega (arith, known)));
+                          rw (begun .progress, getD-replicate 8 j _ _ (omega (arith, machines-few)))
+                          (progress-zero j (omega (arith, known)));
                     };
                 above = begun .above ∙ sym (requests-zero i);
                 own = begun .own ∙ sym (request-empty (machineOf (decode b) i) s);
                 last =
                     rw (begun .last, begun .row, begun .marked, e)
-                    (last-begin (rw (add-zero s) (tick-place (sym (mod-eq-of-lt l)) .at i known)) (row-zeros sizes s));
+                    (last-begin (rw (add-zero s) (tick-phase (sym (mod-eq-of-lt l)) .at i known)) (row-zeros sizes s));
               };
           roomy = refl;
           placed = rw (add-zero s) (sym (mod-eq-of-lt l));
           left = scan-gives (decode b) i s;
         }
       where
-        line-zero : (j : ℕ) → j < machineCount b
-            → LineAt (machineOf (decode b) j) s 0 (record { row = replicate 16 0; top = 0 })
-        line-zero j k =
+        progress-zero : (j : ℕ) → j < machineCount b
+            → ProgressAt (machineOf (decode b) j) s 0 (record { row = replicate 16 0; top = 0 })
+        progress-zero j k =
             record {
               row = row-zeros (machine-sizes (marked .accepted) j k) s;
-              long = length-replicate {A = ℕ} 16 0;
               top = sym (request-empty (machineOf (decode b) j) s);
             }
 
@@ -104,45 +103,45 @@ module _ {b masks lowest : List ℕ} {h : ℕ} (marked : Marked b masks lowest h
         requests-zero zero = refl
         requests-zero (suc j) = omega (arith, requests-zero j, request-empty (machineOf (decode b) j) s)
 
-    module _ {n : ℕ} {level : Level} {room place : ℕ} (w : Walked b i s h n level room place) where
-      pub walked-inside : place < h
+    module _ {n : ℕ} {level : Level} {room phase : ℕ} (w : Walked b i s h n level room phase) where
+      pub walked-inside : phase < h
       walked-inside = rw (w .placed) (mod-lt (s + n) period-positive)
 
-      pub walked-ticking : n < longestWindow → Ticking b masks place i n level
-      walked-ticking l =
+      pub walked-before : n < longestWindow → BeforeTick b masks phase i n level
+      walked-before l =
           record {
             accepted = marked .accepted;
             known = known;
             long = marked .masked .long;
             near = l;
             start = s;
-            marked = tick-place (w .placed);
+            marked = tick-phase (w .placed);
             stands = w .stands;
           }
 
       -- a tick at which no machine of the level has an instant leaves the level as it is
-      pub walked-idle : i < getD lowest place 0 → LevelAt b i s (n + 1) level
+      pub walked-idle : i < getD lowest phase 0 → LevelAt b i s (n + 1) level
       walked-idle l =
           record {
-            lines = record { long = w .stands .lines .long; at = λ j u. line j u };
+            progress = record { long = w .stands .progress .long; at = λ j u. progress j u };
             above = w .stands .above ∙ requests-idle i (omega arith);
             own = w .stands .own ∙ request-idle i (omega arith);
             last = last-none (w .stands .last) (here .at i known) (quiet i (omega arith));
           }
         where
-          here : Place b masks place (s + n)
-          here = tick-place (w .placed)
+          here : Phase b masks phase (s + n)
+          here = tick-phase (w .placed)
 
-          quiet : (j : ℕ) → j ≤ i → getD masks (stride * j + place) 0 ≡ 0
-          quiet j u = marked .lowered .at place walked-inside .before j (omega arith)
+          quiet : (j : ℕ) → j ≤ i → getD masks (stride * j + phase) 0 ≡ 0
+          quiet j u = marked .lowered .at phase walked-inside .before j (omega arith)
 
-          line : (j : ℕ) → j ≤ i → LineAt (machineOf (decode b) j) s (n + 1) (lineOf (level .lines) j)
-          line j u =
+          progress : (j : ℕ) → j ≤ i → ProgressAt (machineOf (decode b) j) s (n + 1) (progressOf (level .progress) j)
+          progress j u =
               moved-not (machine-sizes (marked .accepted) j (omega (arith, known))) (quiet j u) .on s n
-              (here .at j (omega (arith, known))) (w .stands .lines .at j u)
+              (here .at j (omega (arith, known))) (w .stands .progress .at j u)
 
           request-idle : (j : ℕ) → j ≤ i → request (machineOf (decode b) j) s n ≡ request (machineOf (decode b) j) s (n + 1)
-          request-idle j u = sym (w .stands .lines .at j u .top) ∙ line j u .top
+          request-idle j u = sym (w .stands .progress .at j u .top) ∙ progress j u .top
 
           requests-idle : (j : ℕ) → j ≤ i → requests (decode b) j s n ≡ requests (decode b) j s (n + 1)
           requests-idle j u =
@@ -198,9 +197,9 @@ module _ {b masks lowest : List ℕ} {h : ℕ} (marked : Marked b masks lowest h
         passed l =
             sym (scan-next (decode b) i s (suc n) (longestWindow - suc n) not-closed (passes-slack (decode b) i s (suc n) ∙ le-leb _ _ l)) ∙ here
 
-        -- the largest room with that of this length, and the place of the next tick
-        module _ {before room place after : ℕ} (roomy : before ≡ slack (decode b) i s n) (more : room ≡ max before (n + 1 - level .above))
-            (placed : place ≡ (s + n) % h) (next : after ≡ (place + 1) % h) where
+        -- the largest room with that of this length, and the phase of the next tick
+        module _ {before room phase after : ℕ} (roomy : before ≡ slack (decode b) i s n) (more : room ≡ max before (n + 1 - level .above))
+            (placed : phase ≡ (s + n) % h) (next : after ≡ (phase + 1) % h) where
           room-next : room ≡ slack (decode b) i s (suc n)
           unfolding slack
           room-next = rw (add-one n) at more ∙ ap₂ (λ x y. max x (suc n - y)) roomy (at .above)
@@ -208,8 +207,8 @@ module _ {b masks lowest : List ℕ} {h : ℕ} (marked : Marked b masks lowest h
           pub room-now : room ≡ slack (decode b) i s (n + 1)
           room-now = rw (add-one n) room-next
 
-          after-place : after ≡ (s + suc n) % h
-          after-place =
+          after-phase : after ≡ (s + suc n) % h
+          after-phase =
               next
               ∙ ap (λ x. (x + 1) % h) placed
               ∙ mod-next (s + n)
@@ -219,7 +218,7 @@ module _ {b masks lowest : List ℕ} {h : ℕ} (marked : Marked b masks lowest h
           walked-next l =
               let m : demand (machineOf (decode b) i) s (suc n) ≤ room = rw (add-one n) at l in
               rw (add-one n)
-              (record { stands = at; roomy = room-next; placed = after-place; left = passed (omega (arith, room-next)) })
+              (record { stands = at; roomy = room-next; placed = after-phase; left = passed (omega (arith, room-next)) })
 
           -- a demand is at most the request
           pub walked-light : level .own ≤ room → Walked b i s h (n + 1) level room after
@@ -232,7 +231,7 @@ module _ {b masks lowest : List ℕ} {h : ℕ} (marked : Marked b masks lowest h
               ))
 
     -- no length is left
-    pub walked-open : {n : ℕ} {level : Level} {room place : ℕ} → Walked b i s h n level room place → longestWindow ≤ n → n ≤ longestWindow
+    pub walked-open : {n : ℕ} {level : Level} {room phase : ℕ} → Walked b i s h n level room phase → longestWindow ≤ n → n ≤ longestWindow
         → some (Open i s) ≡ gives (decode b) i s
     walked-open {n} w a c =
         sym (scan-open (decode b) i s (suc n)) ∙ rw (let z : longestWindow - n ≡ 0 = omega arith in z) at (w .left)

@@ -1,5 +1,2 @@
-pub mod Moving
-pub mod Marking
-pub mod Half
 pub mod Lengths
-pub mod Answer
+pub mod Replies

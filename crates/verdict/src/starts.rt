@@ -4,19 +4,18 @@ ghost use Prim.Native.Nat.{_+_, _-_, _%_, _<_, max};
 ghost use Rattle.model.specs.Search.{firstOf};
 ghost use Rattle.model.specs.Verdict.{gives, machineGives};
 ghost use Rattle.sheet.specs.Format.{machineCount, decode};
-ghost use Rattle.verdict.specs.Inside.{found, Marked};
+ghost use Rattle.verdict.specs.Inside.{paper, MaskedSheet};
 use crate::Given;
-use crate::lines;
-use crate::masks::STRIDE;
+use level::masks::STRIDE;
 use model::LONGEST_WINDOW;
 use reply::Window;
 
-// The place after a place, in a circle of h.
-fn place_after(place: usize, h: usize) -> usize
-    requires { ⌜ place < h ⌝ }
-    ensures { λ r. ⌜ r ≡ (place + 1) % h ⌝ }
+// The phase after a phase, in a circle of h.
+fn phase_after(phase: usize, h: usize) -> usize
+    requires { ⌜ phase < h ⌝ }
+    ensures { λ r. ⌜ r ≡ (phase + 1) % h ⌝ }
 {
-    if place + 1 == h { 0 } else { place + 1 }
+    if phase + 1 == h { 0 } else { phase + 1 }
 }
 
 // The largest room so far, with that of one length more.
@@ -39,20 +38,21 @@ pub(crate) fn start_judged(
     start: usize,
     h: usize,
 ) -> Given
-    requires { ⌜ Marked (now sheet) (now masks) (now lowest) h × (machine < machineCount (now sheet)) × (start < h) ⌝ }
-    ensures { λ r. ⌜ found r ≡ gives (decode (now (sheet .entry))) machine start ⌝ }
+    requires { ⌜ MaskedSheet (now sheet) (now masks) (now lowest) h × (machine < machineCount (now sheet))
+        × (start < h) ⌝ }
+    ensures { λ r. ⌜ paper r ≡ gives (decode (now (sheet .entry))) machine start ⌝ }
 {
-    let mut level = lines::level_begun(masks[STRIDE * machine + start]);
+    let mut level = level::level_begun(masks[STRIDE * machine + start]);
     let mut slack = 0;
-    let mut place = start;
+    let mut phase = start;
     let mut n = 0;
     while n < LONGEST_WINDOW {
-        if lowest[place] as usize <= machine {
-            let moved = lines::level_moved(sheet, masks, place, machine, n, level);
+        if lowest[phase] as usize <= machine {
+            let moved = level::level_moved(sheet, masks, phase, machine, n, level);
             level = moved;
         }
         n += 1;
-        place = place_after(place, h);
+        phase = phase_after(phase, h);
         if level.above + level.own <= n {
             return Given::Nothing;
         }
@@ -85,8 +85,8 @@ pub(crate) fn machine_judged(
     machine: usize,
     h: usize,
 ) -> Given
-    requires { ⌜ Marked (now sheet) (now masks) (now lowest) h × (machine < machineCount (now sheet)) ⌝ }
-    ensures { λ r. ⌜ found r ≡ machineGives (decode (now (sheet .entry))) machine ⌝ }
+    requires { ⌜ MaskedSheet (now sheet) (now masks) (now lowest) h × (machine < machineCount (now sheet)) ⌝ }
+    ensures { λ r. ⌜ paper r ≡ machineGives (decode (now (sheet .entry))) machine ⌝ }
 {
     let mut start = 0;
     while start < h {
@@ -108,8 +108,8 @@ pub(crate) fn machines_judged(
     machines: usize,
     h: usize,
 ) -> Given
-    requires { ⌜ Marked (now sheet) (now masks) (now lowest) h × (machines ≡ machineCount (now sheet)) ⌝ }
-    ensures { λ r. ⌜ found r ≡ firstOf (machineGives (decode (now (sheet .entry)))) 0
+    requires { ⌜ MaskedSheet (now sheet) (now masks) (now lowest) h × (machines ≡ machineCount (now sheet)) ⌝ }
+    ensures { λ r. ⌜ paper r ≡ firstOf (machineGives (decode (now (sheet .entry)))) 0
         (machineCount (now (sheet .entry))) ⌝ }
 {
     let mut machine = 0;

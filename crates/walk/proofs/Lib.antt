@@ -1,4 +1,4 @@
-pub mod Digits
+pub mod Binary
 pub mod Mask
 pub mod Row
 pub mod Front

@@ -1,5 +1,4 @@
 -- The mask of a tick: what it says of the machine's actions, and a loop that takes its digits off one by one.
--- Assumes nothing.
 use Prim.Native.Nat.{ℕ, _+_, _/_, _%_, _≤_, _<_, max}
 use mathlib.Core.Path.{_≡_, sym, _∙_, ap}
 use mathlib.Core.Bool.{true, false, _&&_, true≢false, and-false}
@@ -19,18 +18,18 @@ use Rattle.model.proofs.Names.{instant?-law, off-divisor}
 use Rattle.model.proofs.Shift.{repeats-times}
 use Rattle.model.proofs.Most.{most-above, most-below}
 use Rattle.walk.specs.Inside.{Marks, AllMarked, WindowMarked}
-use Rattle.walk.proofs.Digits.{digits-cong, digits-none, digits-zero, digits-some}
-use Rattle.walk.proofs.Digits.{Left, left-begin, left-more, left-next, left-one, left-other, left-none}
+use Rattle.walk.proofs.Binary.{binary-cong, binary-none, binary-zero, binary-some}
+use Rattle.walk.proofs.Binary.{Left, left-begin, left-more, left-next, left-one, left-other, left-none}
 
 -- a mask of no action, and one of some
 pub marks-none : {m : Machine} {t : ℕ} → Marks m t 0 → (j : ℕ) → j < count m → may? m t j ≡ true → ⊥
 marks-none {m} {t} h j l i =
-    true≢false (sym i ∙ digits-zero (may? m t) 0 (count m) j (sym (h .is)) (omega arith) (omega arith))
+    true≢false (sym i ∙ binary-zero (may? m t) 0 (count m) j (sym (h .is)) (omega arith) (omega arith))
 
 pub marks-some : {m : Machine} {t mask : ℕ} → Marks m t mask → (mask ≡ 0 → ⊥)
     → (j : ℕ) × (j < count m) × (may? m t j ≡ true)
 marks-some {m} {t} h some =
-    let (j, l, e) = digits-some (may? m t) 0 (count m) (λ z. some (h .is ∙ z)) in
+    let (j, l, e) = binary-some (may? m t) 0 (count m) (λ z. some (h .is ∙ z)) in
     (j, omega arith, e)
 
 -- a tick that is no multiple of the divisor has no instant
@@ -38,7 +37,7 @@ pub marks-off : (m : Machine) (t g : ℕ) → g ≡ divisor m → (t % g ≡ 0 �
 marks-off m t g e h =
     record {
       is =
-          sym (digits-none (may? m t) 0 (count m) (λ k l.
+          sym (binary-none (may? m t) 0 (count m) (λ k l.
           ap (λ x. begins? m (actionOf m k .source) && x) (off-divisor m k t (omega arith) (rw e at h))
           ∙ and-false (begins? m (actionOf m k .source))));
     }
@@ -49,7 +48,7 @@ marks-remainder {m} h {t} again g =
     record {
       is =
           g .is
-          ∙ digits-cong (may? m (t % h)) (may? m t) 0 (count m) (λ k l.
+          ∙ binary-cong (may? m (t % h)) (may? m t) 0 (count m) (λ k l.
           ap (λ x. begins? m (actionOf m k .source) && x) (same k (omega arith)));
     }
   where
@@ -93,26 +92,26 @@ marked-window {m} {from} {n} {masks} beyond h e =
           rw (List·getD-append masks beyond 0 k b) (h .at k b);
     }
 
--- `left` has the digits of the mask from action j on
-pub record Rest (m : Machine) (mask j left : ℕ) : Type 0 where
-  pub at : (t : ℕ) → Marks m t mask → Left (may? m t) (count m) j left
+-- `unseen` has the digits of the mask from action j on
+pub record Unseen (m : Machine) (mask j unseen : ℕ) : Type 0 where
+  pub at : (t : ℕ) → Marks m t mask → Left (may? m t) (count m) j unseen
 
 module _ {m : Machine} {mask : ℕ} where
-  pub rest-begin : Rest m mask 0 mask
-  rest-begin = record { at = λ t h. left-begin (h .is) }
+  pub unseen-begin : Unseen m mask 0 mask
+  unseen-begin = record { at = λ t h. left-begin (h .is) }
 
-  module _ {j left t : ℕ} (h : Rest m mask j left) (marks : Marks m t mask) where
-    pub rest-more : (left ≡ 0 → ⊥) → j < count m
-    rest-more = left-more (h .at t marks)
+  module _ {j unseen t : ℕ} (h : Unseen m mask j unseen) (marks : Marks m t mask) where
+    pub unseen-more : (unseen ≡ 0 → ⊥) → j < count m
+    unseen-more = left-more (h .at t marks)
 
-    pub rest-one : j < count m → left % 2 ≡ 1 → may? m t j ≡ true
-    rest-one = left-one (h .at t marks)
+    pub unseen-one : j < count m → unseen % 2 ≡ 1 → may? m t j ≡ true
+    unseen-one = left-one (h .at t marks)
 
-    pub rest-other : j < count m → (left % 2 ≡ 1 → ⊥) → may? m t j ≡ false
-    rest-other = left-other (h .at t marks)
+    pub unseen-other : j < count m → (unseen % 2 ≡ 1 → ⊥) → may? m t j ≡ false
+    unseen-other = left-other (h .at t marks)
 
-  pub rest-next : {j left : ℕ} → Rest m mask j left → j < count m → Rest m mask (j + 1) (left / 2)
-  rest-next h l = record { at = λ t g. left-next (h .at t g) l }
+  pub unseen-next : {j unseen : ℕ} → Unseen m mask j unseen → j < count m → Unseen m mask (j + 1) (unseen / 2)
+  unseen-next h l = record { at = λ t g. left-next (h .at t g) l }
 
 -- the largest of the first n, where those from j on are 0
 most-idle : (g : ℕ → ℕ) (j n : ℕ) → j ≤ n → ((k : ℕ) → j ≤ k → k < n → g k ≡ 0) → most n g ≡ most j g
@@ -137,11 +136,11 @@ module _ {m : Machine} {mask : ℕ} {brings : ℕ → ℕ → ℕ} {a : ℕ} whe
   most-more {j} {v} u h e = record { is = λ t g. rw add-one (omega (arith, h .is t g, e t g)) }
 
   -- with no digit left
-  pub most-end : {j left v : ℕ} → Most m mask brings a j v → Rest m mask j left → left ≡ 0
+  pub most-end : {j unseen v : ℕ} → Most m mask brings a j v → Unseen m mask j unseen → unseen ≡ 0
       → ((t k : ℕ) → may? m t k ≡ false → brings t k ≡ 0)
       → (t : ℕ) → Marks m t mask → v ≡ max a (most (count m) (brings t))
-  most-end {j} h rest e idle t g =
-      let left = rest .at t g in
+  most-end {j} h unseen e idle t g =
+      let left = unseen .at t g in
       h .is t g
       ∙ ap (max a)
       (sym (most-idle (brings t) j (count m) (left .early) (λ k b c. idle t k (left-none left e k b c))))

@@ -1,5 +1,4 @@
 -- One action's part in a tick, and what the walk makes of a row.
--- Assumes nothing.
 use Prim.Native.Nat.{ℕ, _+_, _/_, _%_, _^_, _≤_, _<_, max}
 use mathlib.Core.Path.{_≡_, refl, sym, _∙_, ap}
 use mathlib.Core.Bool.{true, false, cond}
@@ -14,7 +13,7 @@ use borrow.Author.Tests.{eq-eqb, ne-eqb, le-leb, lt-leb}
 use Rattle.model.specs.declared.Way.{Way}
 use Rattle.model.specs.declared.Way.the-variants.{On, Back}
 use Rattle.model.specs.Machine.{Machine, count, actionOf}
-use Rattle.model.specs.Legal.{asked}
+use Rattle.model.specs.Legal.{requested}
 use Rattle.model.specs.Sizes.{MachineSizes}
 use Rattle.model.specs.Reckon.{most}
 use Rattle.model.specs.Inside.{may?, behind, ahead, figure, brings, dueThen}
@@ -24,7 +23,7 @@ use Rattle.sheet.specs.declared.Entry.{Entry}
 use Rattle.sheet.specs.Inside.{machineAt, IsEntry}
 use Rattle.sheet.proofs.Entries.{entry-sizes, has-action}
 use Rattle.walk.specs.Inside.{Joins, brought, pushed, dueOr, Ticked, DueWithin}
-use Rattle.walk.proofs.Mask.{Rest, rest-begin, rest-one, rest-other, rest-next}
+use Rattle.walk.proofs.Mask.{Unseen, unseen-begin, unseen-one, unseen-other, unseen-next}
 use Rattle.walk.proofs.Mask.{Most, most-begin, most-more, most-end}
 
 -- both ends of an action are states
@@ -70,103 +69,103 @@ module _ (way : Way) (m : Machine) (k : ℕ) (old row : List ℕ) where
       ]
 
 -- what is due counts where it is more
-module _ (m : Machine) (k : ℕ) (row : List ℕ) (rest most : ℕ) where
-  pub due-late : rest < actionOf m k .deadline → most ≡ dueOr m k row rest most
-  due-late l = rw (lt-leb (actionOf m k .deadline) rest l) (omega arith)
+module _ (m : Machine) (k : ℕ) (row : List ℕ) (ticks most : ℕ) where
+  pub due-late : ticks < actionOf m k .deadline → most ≡ dueOr m k row ticks most
+  due-late l = rw (lt-leb (actionOf m k .deadline) ticks l) (omega arith)
 
-  pub due-more : actionOf m k .deadline ≤ rest → most < brought On m k row
-      → brought On m k row ≡ dueOr m k row rest most
-  due-more l h = rw (le-leb (actionOf m k .deadline) rest l) (omega arith)
+  pub due-more : actionOf m k .deadline ≤ ticks → most < brought On m k row
+      → brought On m k row ≡ dueOr m k row ticks most
+  due-more l h = rw (le-leb (actionOf m k .deadline) ticks l) (omega arith)
 
-  pub due-less : actionOf m k .deadline ≤ rest → brought On m k row ≤ most → most ≡ dueOr m k row rest most
-  due-less l h = rw (le-leb (actionOf m k .deadline) rest l) (omega arith)
+  pub due-less : actionOf m k .deadline ≤ ticks → brought On m k row ≤ most → most ≡ dueOr m k row ticks most
+  due-less l h = rw (le-leb (actionOf m k .deadline) ticks l) (omega arith)
 
 -- what action k brings at a tick at which it may not be triggered, and at one at which it may
 pub brings-idle : (way : Way) (m : Machine) (row : ℕ → ℕ) (q t k : ℕ) → may? m t k ≡ false
-    → brings way m (asked m) t row q k ≡ 0
+    → brings way m (requested m) t row q k ≡ 0
 brings-idle way m row q t k e = rw e
 
-pub due-idle : (m : Machine) (row : ℕ → ℕ) (rest t k : ℕ) → may? m t k ≡ false → dueThen m t (t + rest) row k ≡ 0
-due-idle m row rest t k e = rw e
+pub due-idle : (m : Machine) (row : ℕ → ℕ) (ticks t k : ℕ) → may? m t k ≡ false → dueThen m t (t + ticks) row k ≡ 0
+due-idle m row ticks t k e = rw e
 
 module _ (m : Machine) (t k : ℕ) (row : List ℕ) (i : may? m t k ≡ true) where
   brings-now : (way : Way) (q : ℕ)
-      → brings way m (asked m) t (figure row) q k ≡ cond (eqb (ahead way (actionOf m k)) q) (brought way m k row) 0
+      → brings way m (requested m) t (figure row) q k ≡ cond (eqb (ahead way (actionOf m k)) q) (brought way m k row) 0
   brings-now way q = rw i
 
-  due-now : (rest most : ℕ) → max most (dueThen m t (t + rest) (figure row) k) ≡ dueOr m k row rest most
-  due-now rest most =
+  due-now : (ticks most : ℕ) → max most (dueThen m t (t + ticks) (figure row) k) ≡ dueOr m k row ticks most
+  due-now ticks most =
       let d = actionOf m k .deadline in
-      rw (i, leb-same (t + d) (t + rest) d rest (λ a. omega arith, λ a. omega arith))
+      rw (i, leb-same (t + d) (t + ticks) d ticks (λ a. omega arith, λ a. omega arith))
 
--- a row in the middle of a tick: actions 0 to j - 1 are through, and `left` has the digits of the others
-pub record Ticking (way : Way) (m : Machine) (mask : ℕ) (old : List ℕ) (j left : ℕ) (row : List ℕ) : Type 0 where
+-- a row in the middle of a tick: actions 0 to j - 1 are through, and `unseen` has the digits of the others
+pub record Ticking (way : Way) (m : Machine) (mask : ℕ) (old : List ℕ) (j unseen : ℕ) (row : List ℕ) : Type 0 where
   pub long : length row ≡ 16
-  pub rest : Rest m mask j left
+  pub others : Unseen m mask j unseen
   pub at : (q : ℕ) → q < m .states
-      → Most m mask (λ t. brings way m (asked m) t (figure old) q) (figure old q) j (figure row q)
+      → Most m mask (λ t. brings way m (requested m) t (figure old) q) (figure old q) j (figure row q)
 
 module _ {way : Way} {m : Machine} {mask : ℕ} {old : List ℕ} where
   pub ticking-begin : length old ≡ 16 → Ticking way m mask old 0 mask old
-  ticking-begin e = record { long = e; rest = rest-begin; at = λ q l. most-begin }
+  ticking-begin e = record { long = e; others = unseen-begin; at = λ q l. most-begin }
 
-  module _ {j left : ℕ} {row : List ℕ} (h : Ticking way m mask old j left row) where
-    pub ticking-push : MachineSizes m → j < count m → left % 2 ≡ 1 → {new : List ℕ} → new ≡ pushed way m j old row
-        → Ticking way m mask old (j + 1) (left / 2) new
+  module _ {j unseen : ℕ} {row : List ℕ} (h : Ticking way m mask old j unseen row) where
+    pub ticking-push : MachineSizes m → j < count m → unseen % 2 ≡ 1 → {new : List ℕ} → new ≡ pushed way m j old row
+        → Ticking way m mask old (j + 1) (unseen / 2) new
     ticking-push sizes l one {new} e =
         record {
           long = ap length e ∙ length-set row _ _ ∙ h .long;
-          rest = rest-next (h .rest) l;
+          others = unseen-next (h .others) l;
           at = λ q b.
               most-more (figure new q) (h .at q b) (λ t g.
               ap (λ r. figure r q) e
               ∙ pushed-at way m j old row (omega (arith, reached sizes l way, sizes .states .1, h .long)) q
-              ∙ ap (max (figure row q)) (sym (brings-now m t j old (rest-one (h .rest) g l one) way q)));
+              ∙ ap (max (figure row q)) (sym (brings-now m t j old (unseen-one (h .others) g l one) way q)));
         }
 
-    pub ticking-skip : j < count m → (left % 2 ≡ 1 → ⊥) → Ticking way m mask old (j + 1) (left / 2) row
+    pub ticking-skip : j < count m → (unseen % 2 ≡ 1 → ⊥) → Ticking way m mask old (j + 1) (unseen / 2) row
     ticking-skip l other =
         record {
           long = h .long;
-          rest = rest-next (h .rest) l;
+          others = unseen-next (h .others) l;
           at = λ q b.
               most-more (figure row q) (h .at q b) (λ t g.
-              omega (arith, brings-idle way m (figure old) q t j (rest-other (h .rest) g l other)));
+              omega (arith, brings-idle way m (figure old) q t j (unseen-other (h .others) g l other)));
         }
 
-    pub ticking-end : left ≡ 0 → Ticked way m mask old row
+    pub ticking-end : unseen ≡ 0 → Ticked way m mask old row
     ticking-end e =
         record {
-          moved = λ t g. record { at = λ q l. most-end (h .at q l) (h .rest) e (brings-idle way m (figure old) q) t g };
+          moved = λ t g. record { at = λ q l. most-end (h .at q l) (h .others) e (brings-idle way m (figure old) q) t g };
           long = h .long;
         }
 
 -- the same of what is due within `within` ticks: v is the largest figure, or what one of actions 0 to j - 1 brings
-pub record Ending (m : Machine) (mask : ℕ) (row : List ℕ) (within j left v : ℕ) : Type 0 where
-  pub rest : Rest m mask j left
+pub record Ending (m : Machine) (mask : ℕ) (row : List ℕ) (within j unseen v : ℕ) : Type 0 where
+  pub others : Unseen m mask j unseen
   pub is : Most m mask (λ t. dueThen m t (t + within) (figure row)) (most (m .states) (figure row)) j v
 
 module _ {m : Machine} {mask : ℕ} {row : List ℕ} {within : ℕ} where
   pub ending-begin : {states v : ℕ} → states ≡ m .states → v ≡ most states (figure row)
       → Ending m mask row within 0 mask v
-  ending-begin e f = record { rest = rest-begin; is = rw (f, e) most-begin }
+  ending-begin e f = record { others = unseen-begin; is = rw (f, e) most-begin }
 
-  module _ {j left v : ℕ} (h : Ending m mask row within j left v) where
-    pub ending-take : j < count m → left % 2 ≡ 1 → {u : ℕ} → u ≡ dueOr m j row within v
-        → Ending m mask row within (j + 1) (left / 2) u
+  module _ {j unseen v : ℕ} (h : Ending m mask row within j unseen v) where
+    pub ending-take : j < count m → unseen % 2 ≡ 1 → {u : ℕ} → u ≡ dueOr m j row within v
+        → Ending m mask row within (j + 1) (unseen / 2) u
     ending-take l one {u} e =
         record {
-          rest = rest-next (h .rest) l;
-          is = most-more u (h .is) (λ t g. e ∙ sym (due-now m t j row (rest-one (h .rest) g l one) within v));
+          others = unseen-next (h .others) l;
+          is = most-more u (h .is) (λ t g. e ∙ sym (due-now m t j row (unseen-one (h .others) g l one) within v));
         }
 
-    pub ending-skip : j < count m → (left % 2 ≡ 1 → ⊥) → Ending m mask row within (j + 1) (left / 2) v
+    pub ending-skip : j < count m → (unseen % 2 ≡ 1 → ⊥) → Ending m mask row within (j + 1) (unseen / 2) v
     ending-skip l other =
         record {
-          rest = rest-next (h .rest) l;
+          others = unseen-next (h .others) l;
           is = most-more v (h .is) (λ t g.
-              omega (arith, due-idle m (figure row) within t j (rest-other (h .rest) g l other)));
+              omega (arith, due-idle m (figure row) within t j (unseen-other (h .others) g l other)));
         }
 
-    pub ending-end : left ≡ 0 → DueWithin m mask row within v
-    ending-end e = record { is = λ t g. most-end (h .is) (h .rest) e (due-idle m (figure row) within) t g }
+    pub ending-end : unseen ≡ 0 → DueWithin m mask row within v
+    ending-end e = record { is = λ t g. most-end (h .is) (h .others) e (due-idle m (figure row) within) t g }

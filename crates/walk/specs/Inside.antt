@@ -9,7 +9,7 @@ use lib.ListN.{length, getD, set}
 use Rattle.model.specs.declared.Way.{Way}
 use Rattle.model.specs.declared.Way.the-variants.{On}
 use Rattle.model.specs.Machine.{Machine, count, actionOf}
-use Rattle.model.specs.Legal.{cost, asked}
+use Rattle.model.specs.Legal.{cost, requested}
 use Rattle.model.specs.Reckon.{most}
 use Rattle.model.specs.Inside.{may?, behind, ahead, figure, IsRow, IsMoved, LastInstant, dueThen}
 use Rattle.sheet.specs.declared.Entry.{Entry}
@@ -21,13 +21,13 @@ bit true = 1
 bit false = 0
 
 -- the number whose n binary digits are the tests f j, f (j + 1) and so on, the lowest first
-unfoldable pub digits : (ℕ → Bool) → ℕ → ℕ → ℕ
-digits f j zero = 0
-digits f j (suc n) = bit (f j) + 2 * digits f (suc j) n
+unfoldable pub binary : (ℕ → Bool) → ℕ → ℕ → ℕ
+binary f j zero = 0
+binary f j (suc n) = bit (f j) + 2 * binary f (suc j) n
 
 -- the mask marks the actions that may be triggered at t: digit j is 1 where action j may
 pub record Marks (m : Machine) (t mask : ℕ) : Type 0 where
-  pub is : mask ≡ digits (may? m t) 0 (count m)
+  pub is : mask ≡ binary (may? m t) 0 (count m)
 
 -- word k marks the tick from + k
 pub record AllMarked (m : Machine) (from : ℕ) (masks : List ℕ) : Type 0 where
@@ -61,22 +61,22 @@ pushed way m k old row =
     let q = ahead way (actionOf m k) in
     set row q (max (figure row q) (brought way m k old))
 
--- `most`, or what action k brings, if that is more and due within `rest` ticks
+-- `most`, or what action k brings, if that is more and due within `ticks` ticks
 abbrev pub dueOr : Machine → ℕ → List ℕ → ℕ → ℕ → ℕ
-dueOr m k row rest most = max most (cond (leb (actionOf m k .deadline) rest) (brought On m k row) 0)
+dueOr m k row ticks most = max most (cond (leb (actionOf m k .deadline) ticks) (brought On m k row) 0)
 
 -- `new` is the row `old` after a walk over any tick that the mask marks
 pub record Ticked (way : Way) (m : Machine) (mask : ℕ) (old new : List ℕ) : Type 0 where
-  pub moved : (t : ℕ) → Marks m t mask → IsMoved way m (asked m) t old new
+  pub moved : (t : ℕ) → Marks m t mask → IsMoved way m (requested m) t old new
   pub long : length new ≡ 16
 
 -- the mask and the row of s + k, the last instant before s + n
 pub record Last (m : Machine) (s n k mask : ℕ) (row : List ℕ) : Type 0 where
   pub last : LastInstant m s n k
   pub marks : Marks m (s + k) mask
-  pub figures : IsRow m (asked m) s k row
+  pub figures : IsRow m (requested m) s k row
 
--- v is the largest figure, or what an action brings that is due within `rest` ticks of the tick that the mask marks
-pub record DueWithin (m : Machine) (mask : ℕ) (row : List ℕ) (rest v : ℕ) : Type 0 where
+-- v is the largest figure, or what an action brings that is due within `ticks` ticks of the tick that the mask marks
+pub record DueWithin (m : Machine) (mask : ℕ) (row : List ℕ) (ticks v : ℕ) : Type 0 where
   pub is : (t : ℕ) → Marks m t mask
-      → v ≡ max (most (m .states) (figure row)) (most (count m) (dueThen m t (t + rest) (figure row)))
+      → v ≡ max (most (m .states) (figure row)) (most (count m) (dueThen m t (t + ticks) (figure row)))

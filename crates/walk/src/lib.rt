@@ -12,13 +12,13 @@ ghost use Rattle.walk.specs.Inside.{dueOr, DueWithin, brought as Inside�
 use model::LONGEST_WINDOW;
 use model::Way;
 use sheet::Entry;
-use sheet::read;
+use sheet::fields;
 
 // A mask for each tick of the longest window, and one for its end.
 pub const WINDOW_MASKS: usize = LONGEST_WINDOW as usize + 1;
 
 // Marks the ticks from `from` on, a word each: bit j of a word is 1 where action j may be triggered.
-pub fn marks(sheet: &[u8], entry: Entry, from: u32, masks: &mut [u32])
+pub fn mark_ticks(sheet: &[u8], entry: Entry, from: u32, masks: &mut [u32])
     requires { ⌜ IsEntry (now sheet) entry × (from + length (now masks) < 2 ^ 32) ⌝ }
     ensures { λ _. ⌜ AllMarked (machineAt (now (sheet .entry)) entry) from (now (masks .exit)) ⌝ }
 {
@@ -31,12 +31,12 @@ pub fn marks(sheet: &[u8], entry: Entry, from: u32, masks: &mut [u32])
 }
 
 // Marks the ticks of a window from `from` to `from` + `length`, its end included.
-pub fn window_marks(sheet: &[u8], entry: Entry, from: u32, length: usize) -> [u32; WINDOW_MASKS]
+pub fn window_masks(sheet: &[u8], entry: Entry, from: u32, length: usize) -> [u32; WINDOW_MASKS]
     requires { ⌜ IsEntry (now sheet) entry × InRange from (from + length) ⌝ }
     ensures { λ r. ⌜ WindowMarked (machineAt (now (sheet .entry)) entry) from length r ⌝ }
 {
     let mut masks = [0u32; WINDOW_MASKS];
-    marks(sheet, entry, from, &mut masks[..length + 1]);
+    mark_ticks(sheet, entry, from, &mut masks[..length + 1]);
     masks
 }
 
@@ -76,13 +76,13 @@ pub fn tick(sheet: &[u8], entry: Entry, mask: u32, way: Way, old: [u32; 16]) -> 
     ensures { λ r. ⌜ Ticked way (machineAt (now (sheet .entry)) entry) mask old r ⌝ }
 {
     let mut row = old;
-    let mut left = mask;
+    let mut unseen = mask;
     let mut j = 0;
-    while left != 0 {
-        if left % 2 == 1 {
+    while unseen != 0 {
+        if unseen % 2 == 1 {
             push(sheet, entry, j, way, &old, &mut row);
         }
-        left = left / 2;
+        unseen = unseen / 2;
         j += 1;
     }
     row
@@ -107,8 +107,8 @@ fn behind(sheet: &[u8], entry: Entry, j: usize, way: Way) -> usize
     ensures { λ r. ⌜ r ≡ Inside·behind way (actionOf (machineAt (now (sheet .entry)) entry) j) ⌝ }
 {
     match way {
-        Way::On => read::source(sheet, entry, j),
-        Way::Back => read::sink(sheet, entry, j),
+        Way::On => fields::source(sheet, entry, j),
+        Way::Back => fields::sink(sheet, entry, j),
     }
 }
 
@@ -118,8 +118,8 @@ fn ahead(sheet: &[u8], entry: Entry, j: usize, way: Way) -> usize
     ensures { λ r. ⌜ r ≡ Inside·ahead way (actionOf (machineAt (now (sheet .entry)) entry) j) ⌝ }
 {
     match way {
-        Way::On => read::sink(sheet, entry, j),
-        Way::Back => read::source(sheet, entry, j),
+        Way::On => fields::sink(sheet, entry, j),
+        Way::Back => fields::source(sheet, entry, j),
     }
 }
 
@@ -148,31 +148,31 @@ pub fn top(row: &[u32; 16], states: usize) -> u32
     top
 }
 
-// The most that is due within `rest` ticks of a tick at which the actions of the mask may be
+// The most that is due within `ticks` ticks of a tick at which the actions of the mask may be
 // triggered, where `row` has the figures before that tick.
-pub fn due_within(sheet: &[u8], entry: Entry, mask: u32, row: [u32; 16], rest: u32) -> u32
+pub fn due_within(sheet: &[u8], entry: Entry, mask: u32, row: [u32; 16], ticks: u32) -> u32
     requires { ⌜ IsEntry (now sheet) entry × Ready (machineAt (now sheet) entry) mask row ⌝ }
-    ensures { λ r. ⌜ DueWithin (machineAt (now (sheet .entry)) entry) mask row rest r ⌝ }
+    ensures { λ r. ⌜ DueWithin (machineAt (now (sheet .entry)) entry) mask row ticks r ⌝ }
 {
     let mut most = top(&row, entry.states);
-    let mut left = mask;
+    let mut unseen = mask;
     let mut j = 0;
-    while left != 0 {
-        if left % 2 == 1 {
-            most = due_or(sheet, entry, j, &row, rest, most);
+    while unseen != 0 {
+        if unseen % 2 == 1 {
+            most = due_or(sheet, entry, j, &row, ticks, most);
         }
-        left = left / 2;
+        unseen = unseen / 2;
         j += 1;
     }
     most
 }
 
-// `most`, or what action j brings, if that is more and due within `rest` ticks.
-fn due_or(sheet: &[u8], entry: Entry, j: usize, row: &[u32; 16], rest: u32, most: u32) -> u32
+// `most`, or what action j brings, if that is more and due within `ticks` ticks.
+fn due_or(sheet: &[u8], entry: Entry, j: usize, row: &[u32; 16], ticks: u32, most: u32) -> u32
     requires { ⌜ Joins (now sheet) entry j (now row) ⌝ }
-    ensures { λ r. ⌜ r ≡ dueOr (machineAt (now (sheet .entry)) entry) j (now (row .entry)) rest most ⌝ }
+    ensures { λ r. ⌜ r ≡ dueOr (machineAt (now (sheet .entry)) entry) j (now (row .entry)) ticks most ⌝ }
 {
-    if rest < read::deadline(sheet, entry, j) {
+    if ticks < fields::deadline(sheet, entry, j) {
         return most;
     }
     let figure = brought(sheet, entry, j, Way::On, row);

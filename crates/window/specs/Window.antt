@@ -8,7 +8,7 @@ use Rattle.model.specs.Limits.{longestWindow, lastTick}
 use Rattle.reply.specs.declared.Refusal.{Refusal}
 use Rattle.reply.specs.Reply.{refusal, unless, _orElse_}
 use Rattle.sheet.specs.Format.{machineCount}
-use Rattle.sheet.specs.Check.{refusalOf}
+use Rattle.rules.specs.Check.{refusalOf}
 
 -- s at most f, f minus s at most 2,048, f at most 1,000,000
 abbrev pub windowInRange : ℕ → ℕ → Bool

@@ -2,7 +2,7 @@
 // Definitions: specs/Window.antt.
 ghost use mathlib.Core.Path.{_≡_};
 ghost use Prim.Native.Nat.{_<_, _^_};
-ghost use Rattle.reply.specs.Inside.{found};
+ghost use Rattle.reply.specs.Inside.{paper};
 ghost use Rattle.window.specs.Window.{questionRefusal, windowInRange as Window·inRange};
 use model::LAST_TICK;
 use model::LONGEST_WINDOW;
@@ -10,11 +10,11 @@ use reply::Checked;
 use reply::Rule;
 
 // Refusals 1 to 9, then 10 and 11, of a question about a machine and the window from `from` to `to`.
-pub fn question(sheet: &[u8], machine: u32, from: u64, to: u64) -> Rule
+pub fn question_rule(sheet: &[u8], machine: u32, from: u64, to: u64) -> Rule
     requires { ⌜ from < 2 ^ 32 ⌝ }
-    ensures { λ r. ⌜ found r ≡ questionRefusal (now (sheet .entry)) machine from to ⌝ }
+    ensures { λ r. ⌜ paper r ≡ questionRefusal (now (sheet .entry)) machine from to ⌝ }
 {
-    let checked = sheet::check(sheet);
+    let checked = rules::check(sheet);
     match checked {
         Checked::Refused(refusal) => Rule::Broken(refusal),
         Checked::Accepted {

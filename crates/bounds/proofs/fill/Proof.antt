@@ -16,7 +16,7 @@ Inv-loop sheet machine from length words₀ entry masks row₀ n₀ words row n 
 abbrev μ-loop : tie.MeasureT-loop
 μ-loop sheet machine from length words₀ entry masks row₀ n₀ words row n = length + 1 - n
 
--- the entry, and the mask of a turn
+-- the entry, and the mask of a step
 entry-here : (c : tie.In-loop Inv-loop μ-loop)
     → let start = c .before .before .before .before .before .before .args in
     IsEntry (start .sheet .now) (c .before .before .before .entry-of .result)
@@ -26,14 +26,14 @@ marked : (c : tie.In-loop Inv-loop μ-loop)
     → let start = c .before .before .before .before .before .before .args in
     let n = c .before .loop .n in
     Marks (machineAt (start .sheet .now) (c .before .before .before .entry-of .result)) (start .from + n)
-    (getD (c .before .before .window-marks .result) n 0)
-marked c = c .before .before .window-marks .ensures .at (c .before .loop .n) (omega arith)
+    (getD (c .before .before .window-masks .result) n 0)
+marked c = c .before .before .window-masks .ensures .at (c .before .loop .n) (omega arith)
 
 entry-of-requires : tie.Need-entry-of-requires Inv-loop μ-loop
 entry-of-requires c κs = (c .before .before .pre .0 .accepted, c .before .before .pre .0 .known)
 
-window-marks-requires : tie.Need-window-marks-requires Inv-loop μ-loop
-window-marks-requires c κs = (c .entry-of .ensures .1, c .before .before .before .pre .0 .window)
+window-masks-requires : tie.Need-window-masks-requires Inv-loop μ-loop
+window-masks-requires c κs = (c .entry-of .ensures .1, c .before .before .before .pre .0 .window)
 
 loop-holds : tie.Need-loop-holds Inv-loop μ-loop
 loop-holds c = (omega arith, filling-begin (row-zeros (entry-sizes (c .before .entry-of .ensures .1)) _))
@@ -41,7 +41,7 @@ loop-holds c = (omega arith, filling-begin (row-zeros (entry-sizes (c .before .e
 top-requires : tie.Need-top-requires Inv-loop μ-loop
 top-requires c κs =
     let entry = entry-here (c .before) in
-    omega (arith, entry .read .states, entry-sizes entry .states .1)
+    omega (arith, entry .has .states, entry-sizes entry .states .1)
 
 cast-words : tie.Need-cast-words Inv-loop μ-loop
 cast-words c = omega arith
@@ -63,11 +63,11 @@ array-read-tick c = omega arith
 
 tick-requires : tie.Need-tick-requires Inv-loop μ-loop
 tick-requires c κs =
-    let turn = c .before .before in
-    let entry = entry-here turn in
-    let window = turn .before .before .before .before .before .before .pre .0 .window in
-    let row = turn .before .loop .inv .1 .figures in
-    (entry, row-ready (entry-sizes entry) row (omega (arith, window .near)) (marked turn))
+    let step = c .before .before in
+    let entry = entry-here step in
+    let window = step .before .before .before .before .before .before .pre .0 .window in
+    let row = step .before .loop .inv .1 .figures in
+    (entry, row-ready (entry-sizes entry) row (omega (arith, window .near)) (marked step))
 
 add-n : tie.Need-add-n Inv-loop μ-loop
 add-n c = omega arith
@@ -77,13 +77,13 @@ loop-less c = omega arith
 
 loop-again : tie.Need-loop-again Inv-loop μ-loop
 loop-again c =
-    let turn = c .before .before .before in
-    let inv = turn .before .loop .inv .1 in
-    let entry = entry-here turn in (
+    let step = c .before .before .before in
+    let inv = step .before .loop .inv .1 in
+    let entry = entry-here step in (
       omega arith,
       filling-more inv (omega arith)
-          (row-top (entry-sizes entry) (inv .figures) (entry .read .states) (c .before .top .ensures))
-          (row-ticked (entry-sizes entry) (inv .figures) _ (marked turn) (c .tick .ensures)),
+          (row-top (entry-sizes entry) (inv .figures) (entry .has .states) (c .before .top .ensures))
+          (row-ticked (entry-sizes entry) (inv .figures) _ (marked step) (c .tick .ensures)),
     )
 
 same-length : tie.Need-same-length Inv-loop μ-loop
@@ -101,7 +101,7 @@ fill-spec =
     Inv-loop
     μ-loop
     entry-of-requires
-    window-marks-requires
+    window-masks-requires
     loop-holds
     top-requires
     cast-words

@@ -19,14 +19,14 @@ walk-to-requires c κs = search needs
 top-requires : tie.Need-top-requires
 top-requires c κs =
     let entry = c .before .before .before .entry-of .ensures .1 in
-    omega (arith, entry .read .states, entry-sizes entry .states .1)
+    omega (arith, entry .has .states, entry-sizes entry .states .1)
 
 returns : tie.Need-returns
 returns c =
     let start = c .before .before .before .before .before .before .args in
     let (same, entry) = c .before .before .before .before .entry-of .ensures in
     let row = c .before .before .before .walk-to .ensures .row in
-    row-top (entry-sizes entry) row (entry .read .states) (c .top .ensures)
+    row-top (entry-sizes entry) row (entry .has .states) (c .top .ensures)
     ∙ ap (λ (i : ℕ). request (machineOf (decode (start .sheet .now)) i) (start .from) (start .length)) same
 
 pub request-of-spec : {M : Type 1} → statement M

@@ -2,10 +2,10 @@ use Prim.Native.Nat.{_+_}
 use mathlib.Core.Path.{_≡_, sym, _∙_, ap}
 use mathlib.Core.Option.{none}
 use native.Mathlib.Omega.{arith}
-use Rattle.reply.specs.Inside.{found}
+use Rattle.reply.specs.Inside.{paper}
 use Rattle.window.specs.Window.{questionRefusal}
-use Rattle.window.proofs.Asked.{proper}
-use Rattle.bounds.proofs.Words.{refusal-question, refusal-short, refusal-none, table-refused, table-filled}
+use Rattle.window.proofs.Replies.{proper}
+use Rattle.bounds.proofs.Replies.{refusal-question, refusal-short, refusal-none, table-refused, table-filled}
 use borrow.Author.Needs.{needs}
 use Rattle.bounds.proofs.table.Statement.{statement}
 use Rattle.bounds.proofs.table.Tie as tie
@@ -14,21 +14,21 @@ use Rattle.bounds.proofs.table.Tie as tie
 kept : (c : tie.After-enum-told)
     → let start = c .before .before .before .before .before .args in
     questionRefusal (start .sheet .now) (start .machine) (start .from) (start .from + start .length) ≡ none
-kept c = sym (c .before .before .question .ensures) ∙ ap found (c .enum-told .given .1)
+kept c = sym (c .before .before .question-rule .ensures) ∙ ap paper (c .enum-told .given .1)
 
-add-question : tie.Need-add-question
-add-question c = search needs
+add-question-rule : tie.Need-add-question-rule
+add-question-rule c = search needs
 
-question-requires : tie.Need-question-requires
-question-requires c κs = search needs
+question-rule-requires : tie.Need-question-rule-requires
+question-rule-requires c κs = search needs
 
 enum-known-rule : tie.Need-enum-known-rule
 enum-known-rule c = search needs
 
 returns : tie.Need-returns
 returns c =
-    let broken = ap found (c .before .rule .given .1) in
-    table-refused _ _ _ _ _ (refusal-question _ _ _ _ _ (sym (c .before .before .before .question .ensures) ∙ broken))
+    let broken = ap paper (c .before .rule .given .1) in
+    table-refused _ _ _ _ _ (refusal-question _ _ _ _ _ (sym (c .before .before .before .question-rule .ensures) ∙ broken))
 
 enum-told : tie.Need-enum-told
 enum-told c = search needs
@@ -58,8 +58,8 @@ pub table-spec : {M : Type 1} → statement M
 table-spec =
     tie.close
     (tie.spec
-    add-question
-    question-requires
+    add-question-rule
+    question-rule-requires
     enum-known-rule
     returns
     enum-told

@@ -3,7 +3,7 @@ use Prim.Native.Nat.{_+_, _-_, _≤_}
 use mathlib.Core.Logic.{⊎-elim}
 use native.Mathlib.Omega.{arith}
 use lib.ListN.{getD}
-use Rattle.model.specs.Legal.{asked}
+use Rattle.model.specs.Legal.{requested}
 use Rattle.model.specs.Inside.{IsRow}
 use Rattle.sheet.specs.Inside.{machineAt}
 use Rattle.walk.specs.Inside.{Marks, Last}
@@ -14,21 +14,21 @@ use Rattle.bounds.proofs.walk_to.Tie as tie
 
 abbrev Inv-loop : tie.InvT-loop
 Inv-loop sheet entry from length masks row₀ last₀ mask₀ before₀ n₀ row last mask before n =
-    (n ≤ length) × IsRow (machineAt sheet entry) (asked (machineAt sheet entry)) from n row
+    (n ≤ length) × IsRow (machineAt sheet entry) (requested (machineAt sheet entry)) from n row
     × Last (machineAt sheet entry) from n last mask before
 
 abbrev μ-loop : tie.MeasureT-loop
 μ-loop sheet entry from length masks row₀ last₀ mask₀ before₀ n₀ row last mask before n = length - n
 
--- the mask of a turn
+-- the mask of a step
 marked : (c : tie.In-loop Inv-loop μ-loop)
     → let start = c .before .before .before .before .args in
     Marks (machineAt (start .sheet .now) (start .entry)) (start .from + c .before .loop .n)
-    (getD (c .before .before .window-marks .result) (c .before .loop .n) 0)
-marked c = c .before .before .window-marks .ensures .at (c .before .loop .n) (omega arith)
+    (getD (c .before .before .window-masks .result) (c .before .loop .n) 0)
+marked c = c .before .before .window-masks .ensures .at (c .before .loop .n) (omega arith)
 
-window-marks-requires : tie.Need-window-marks-requires Inv-loop μ-loop
-window-marks-requires c κs = c .before .pre
+window-masks-requires : tie.Need-window-masks-requires Inv-loop μ-loop
+window-masks-requires c κs = c .before .pre
 
 array-read-mask : tie.Need-array-read-mask Inv-loop μ-loop
 array-read-mask c = omega arith
@@ -37,7 +37,7 @@ loop-holds : tie.Need-loop-holds Inv-loop μ-loop
 loop-holds c =
     let start = c .before .before in
     let zeros = row-zeros (entry-sizes (start .pre .0)) (start .args .from) in
-    (omega arith, zeros, last-begin (c .window-marks .ensures .at 0 (omega arith)) zeros)
+    (omega arith, zeros, last-begin (c .window-masks .ensures .at 0 (omega arith)) zeros)
 
 cast-now : tie.Need-cast-now Inv-loop μ-loop
 cast-now c = omega arith
@@ -62,21 +62,21 @@ loop-less c = omega arith
 
 loop-again : tie.Need-loop-again Inv-loop μ-loop
 loop-again c =
-    let turn = c .before in
-    let (early, row, last) = turn .before .loop .inv in
-    let sizes = entry-sizes (turn .before .before .before .before .pre .0) in
+    let step = c .before in
+    let (early, row, last) = step .before .loop .inv in
+    let sizes = entry-sizes (step .before .before .before .before .pre .0) in
     ⊎-elim
     (λ w.
     rw (w .2, w .3, w .4, w .5) (
       omega arith,
-      row-ticked sizes row _ (marked turn) (w .1 .ensures),
-      last-instant (marked turn) (w .0 .taken) row,
+      row-ticked sizes row _ (marked step) (w .1 .ensures),
+      last-instant (marked step) (w .0 .taken) row,
     ))
     (λ w.
     rw (w .1, w .2, w .3, w .4) (
       omega arith,
-      row-idle sizes row (marked turn) (w .0 .left),
-      last-none last (marked turn) (w .0 .left),
+      row-idle sizes row (marked step) (w .0 .left),
+      last-none last (marked step) (w .0 .left),
     ))
     (c .if1 .came)
 
@@ -92,7 +92,7 @@ walk-to-spec =
     (tie.spec
     Inv-loop
     μ-loop
-    window-marks-requires
+    window-masks-requires
     array-read-mask
     loop-holds
     cast-now

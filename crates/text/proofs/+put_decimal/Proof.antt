@@ -17,118 +17,77 @@ use Rattle.text.proofs.+put_decimal.Tie.{close}
 abbrev μ-put-decimal : Measures 1 put-decimal-kinds.ps ℕ
 μ-put-decimal κs a = a .1 .1 .0
 
-abbrev put-decimal-at : ℕ → In 1 put-decimal-kinds.ps
-put-decimal-at t =
-    and 1 put-decimal-kinds.ps (is 1 put-decimal-kinds.ps μ-put-decimal t) put-decimal.Pre
+module _ (t : ℕ) where
+  abbrev put-decimal-at : In 1 put-decimal-kinds.ps
+  put-decimal-at = and 1 put-decimal-kinds.ps (is 1 put-decimal-kinds.ps μ-put-decimal t) put-decimal.Pre
 
-abbrev put-decimal-below : ℕ → In 1 put-decimal-kinds.ps
-put-decimal-below t =
-    and 1 put-decimal-kinds.ps (falls 1 put-decimal-kinds.ps _<_ μ-put-decimal t) put-decimal.Pre
+  abbrev put-decimal-below : In 1 put-decimal-kinds.ps
+  put-decimal-below = and 1 put-decimal-kinds.ps (falls 1 put-decimal-kinds.ps _<_ μ-put-decimal t) put-decimal.Pre
 
-put-decimal-cast-put-byte : (t : ℕ) → put-decimal-lts.Need-cast-put-byte (
-  put-byte-reads.Asked,
-  put-byte-reads.Learnt,
-  put-decimal-below t,
-  put-decimal.Post,
-) (put-decimal-at t) put-decimal.Post
-put-decimal-cast-put-byte t c = omega arith
+  -- what the calls ask and tell
+  abbrev calls : put-decimal-lts.Claims
+  calls = (put-byte-reads.Asked, put-byte-reads.Learnt, put-decimal-below, put-decimal.Post)
 
-put-decimal-add-put-byte : (t : ℕ) → put-decimal-lts.Need-add-put-byte (
-  put-byte-reads.Asked,
-  put-byte-reads.Learnt,
-  put-decimal-below t,
-  put-decimal.Post,
-) (put-decimal-at t) put-decimal.Post
-put-decimal-add-put-byte t c = omega arith
+  put-decimal-cast-put-byte : put-decimal-lts.Need-cast-put-byte calls put-decimal-at put-decimal.Post
+  put-decimal-cast-put-byte c = omega arith
 
-put-decimal-put-byte-requires : (t : ℕ) → put-decimal-lts.Need-put-byte-requires (
-  put-byte-reads.Asked,
-  put-byte-reads.Learnt,
-  put-decimal-below t,
-  put-decimal.Post,
-) (put-decimal-at t) put-decimal.Post
-put-decimal-put-byte-requires t c κs = omega (arith, c .before .before .before .pre .1, ap length (decimal-digit _ (c .before .if1 .taken)))
+  put-decimal-add-put-byte : put-decimal-lts.Need-add-put-byte calls put-decimal-at put-decimal.Post
+  put-decimal-add-put-byte c = omega arith
 
-put-decimal-same-length : (t : ℕ) → put-decimal-lts.Need-same-length (
-  put-byte-reads.Asked,
-  put-byte-reads.Learnt,
-  put-decimal-below t,
-  put-decimal.Post,
-) (put-decimal-at t) put-decimal.Post
-put-decimal-same-length t c = c .before .before .put-byte .ensures .size
+  put-decimal-put-byte-requires : put-decimal-lts.Need-put-byte-requires calls put-decimal-at put-decimal.Post
+  put-decimal-put-byte-requires c κs =
+      omega (arith, c .before .before .before .pre .1, ap length (decimal-digit _ (c .before .if1 .taken)))
 
-put-decimal-returns : (t : ℕ) → put-decimal-lts.Need-returns (
-  put-byte-reads.Asked,
-  put-byte-reads.Learnt,
-  put-decimal-below t,
-  put-decimal.Post,
-) (put-decimal-at t) put-decimal.Post
-put-decimal-returns t c = rw (decimal-digit _ (c .before .before .before .before .if1 .taken)) (c .before .before .put-byte .ensures)
+  put-decimal-same-length : put-decimal-lts.Need-same-length calls put-decimal-at put-decimal.Post
+  put-decimal-same-length c = c .before .before .put-byte .ensures .size
 
-put-decimal-put-decimal-requires : (t : ℕ) → put-decimal-lts.Need-put-decimal-requires (
-  put-byte-reads.Asked,
-  put-byte-reads.Learnt,
-  put-decimal-below t,
-  put-decimal.Post,
-) (put-decimal-at t) put-decimal.Post
-put-decimal-put-decimal-requires t c κs =
-    let start = c .before .before .before in (
-      omega (arith, start .pre .0, div-lt-self {n = start .args .n} {k = 10} (omega arith) (omega arith)),
-      omega (arith, start .pre .1, decimal-length _ (c .before .if1 .left)),
-    )
+  put-decimal-returns : put-decimal-lts.Need-returns calls put-decimal-at put-decimal.Post
+  put-decimal-returns c =
+      let put = c .before .before in
+      rw (decimal-digit _ (put .before .before .if1 .taken)) (put .put-byte .ensures)
 
-put-decimal-cast-put-byte-2 : (t : ℕ) → put-decimal-lts.Need-cast-put-byte-2 (
-  put-byte-reads.Asked,
-  put-byte-reads.Learnt,
-  put-decimal-below t,
-  put-decimal.Post,
-) (put-decimal-at t) put-decimal.Post
-put-decimal-cast-put-byte-2 t c = omega arith
+  put-decimal-put-decimal-requires : put-decimal-lts.Need-put-decimal-requires calls put-decimal-at put-decimal.Post
+  put-decimal-put-decimal-requires c κs =
+      let start = c .before .before .before in (
+        omega (arith, start .pre .0, div-lt-self {n = start .args .n} {k = 10} (omega arith) (omega arith)),
+        omega (arith, start .pre .1, decimal-length _ (c .before .if1 .left)),
+      )
 
-put-decimal-add-put-byte-2 : (t : ℕ) → put-decimal-lts.Need-add-put-byte-2 (
-  put-byte-reads.Asked,
-  put-byte-reads.Learnt,
-  put-decimal-below t,
-  put-decimal.Post,
-) (put-decimal-at t) put-decimal.Post
-put-decimal-add-put-byte-2 t c = omega arith
+  put-decimal-cast-put-byte-2 : put-decimal-lts.Need-cast-put-byte-2 calls put-decimal-at put-decimal.Post
+  put-decimal-cast-put-byte-2 c = omega arith
 
-put-decimal-put-byte-requires-2 : (t : ℕ) → put-decimal-lts.Need-put-byte-requires-2 (
-  put-byte-reads.Asked,
-  put-byte-reads.Learnt,
-  put-decimal-below t,
-  put-decimal.Post,
-) (put-decimal-at t) put-decimal.Post
-put-decimal-put-byte-requires-2 t c κs =
-    let called = c .before .before .before in
-    let start = called .before .before .before .before in
-    omega (arith, start .pre .1, called .put-decimal .ensures .next, called .put-decimal .ensures .size, decimal-length _ (called .before .before .if1 .left))
+  put-decimal-add-put-byte-2 : put-decimal-lts.Need-add-put-byte-2 calls put-decimal-at put-decimal.Post
+  put-decimal-add-put-byte-2 c = omega arith
 
-put-decimal-same-length-2 : (t : ℕ) → put-decimal-lts.Need-same-length-2 (
-  put-byte-reads.Asked,
-  put-byte-reads.Learnt,
-  put-decimal-below t,
-  put-decimal.Post,
-) (put-decimal-at t) put-decimal.Post
-put-decimal-same-length-2 t c = c .before .before .put-byte2 .ensures .size ∙ c .before .before .before .before .before .before .put-decimal .ensures .size
+  put-decimal-put-byte-requires-2 : put-decimal-lts.Need-put-byte-requires-2 calls put-decimal-at put-decimal.Post
+  put-decimal-put-byte-requires-2 c κs =
+      let called = c .before .before .before in
+      let put = called .put-decimal .ensures in
+      let more = called .before .before in
+      omega (arith, more .before .before .pre .1, put .next, put .size, decimal-length _ (more .if1 .left))
 
-put-decimal-returns-2 : (t : ℕ) → put-decimal-lts.Need-returns-2 (
-  put-byte-reads.Asked,
-  put-byte-reads.Learnt,
-  put-decimal-below t,
-  put-decimal.Post,
-) (put-decimal-at t) put-decimal.Post
-put-decimal-returns-2 t c =
-    let called = c .before .before .before .before .before .before in
-    rw (decimal-more _ (called .before .before .if1 .left)) (put-then (called .put-decimal .ensures) (c .before .before .put-byte2 .ensures))
+  -- the digits before the last one, seen from the end
+  abbrev front : put-decimal-lts.After-put-byte2 calls put-decimal-at put-decimal.Post
+      → put-decimal-lts.After-put-decimal calls put-decimal-at put-decimal.Post
+  front c = c .before .before .before .before
+
+  put-decimal-same-length-2 : put-decimal-lts.Need-same-length-2 calls put-decimal-at put-decimal.Post
+  put-decimal-same-length-2 c =
+      let put = c .before .before in
+      put .put-byte2 .ensures .size ∙ front put .put-decimal .ensures .size
+
+  put-decimal-returns-2 : put-decimal-lts.Need-returns-2 calls put-decimal-at put-decimal.Post
+  put-decimal-returns-2 c =
+      let put = c .before .before in
+      rw (decimal-more _ (front put .before .before .if1 .left))
+      (put-then (front put .put-decimal .ensures) (put .put-byte2 .ensures))
 
 pub +put-decimal-spec : {M : Type 1} → statement M
-+put-decimal-spec = close μ-put-decimal λ t. put-decimal-lts.spec (
-  put-byte-reads.Asked,
-  put-byte-reads.Learnt,
-  put-decimal-below t,
-  put-decimal.Post,
-)
++put-decimal-spec =
+    close
+    μ-put-decimal
+    λ t. put-decimal-lts.spec
+    (calls t)
     (put-decimal-at t)
     put-decimal.Post
     (put-decimal-cast-put-byte t)

@@ -29,8 +29,8 @@ returns-2 c =
 
 returns-3 : tie.Need-returns-3 Inv-loop μ-loop
 returns-3 c =
-    let turn = c .before .before .before in
-    reading-high (turn .before .loop .inv .2) _ (turn .loop-test .taken) (c .before .before .read-byte .ensures .0)
+    let step = c .before .before .before in
+    reading-high (step .before .loop .inv .2) _ (step .loop-test .taken) (c .before .before .read-byte .ensures .0)
     (c .before .if2 .left) (c .if3 .taken)
 
 mul-value : tie.Need-mul-value Inv-loop μ-loop

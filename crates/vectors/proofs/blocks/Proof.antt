@@ -12,8 +12,8 @@ abbrev μ-loop : tie.MeasureT-loop
 loop-holds : tie.Need-loop-holds Inv-loop μ-loop
 loop-holds c = omega arith
 
-turns-requires : tie.Need-turns-requires Inv-loop μ-loop
-turns-requires c κs = tt
+stays-requires : tie.Need-stays-requires Inv-loop μ-loop
+stays-requires c κs = tt
 
 add-i : tie.Need-add-i Inv-loop μ-loop
 add-i c = omega arith
@@ -30,4 +30,4 @@ returns c = tt
 pub blocks-spec : {M : Type 1} → statement M
 blocks-spec =
     tie.close
-    (tie.spec Inv-loop μ-loop loop-holds turns-requires add-i loop-less loop-again returns)
+    (tie.spec Inv-loop μ-loop loop-holds stays-requires add-i loop-less loop-again returns)

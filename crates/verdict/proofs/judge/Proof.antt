@@ -1,15 +1,20 @@
-use Rattle.verdict.proofs.Answer.{reply-refused, reply-given, given-safe}
-use Rattle.verdict.specs.Inside.{found}
-use Rattle.sheet.proofs.Answer.{refused-so, accepted-so}
-use native.Mathlib.Omega.{arith}
+use Rattle.verdict.proofs.Replies.{reply-given, given-safe, late-not-fits, open-not-fits, refused-not-fits}
+use Rattle.verdict.specs.Inside.{judgement}
+use Rattle.reply.proofs.Refusals.{otherwise-refused}
+use Rattle.rules.specs.Check.{refusalOf}
+use Rattle.rules.proofs.Replies.{refused-so, accepted-so}
 use mathlib.Core.Path.{_≡_, sym, _∙_, ap}
-use Prim.Native.Nat.{ℕ}
+use mathlib.Core.Option.{none}
 use borrow.Author.Needs.{needs}
 use Rattle.verdict.proofs.judge.Statement.{statement}
 use Rattle.verdict.proofs.judge.Tie as tie
 
+-- no rule refuses the sheet
+kept : (c : tie.After-known-told2) → refusalOf (c .before .before .before .before .before .args .sheet .now) ≡ none
+kept c = accepted-so _ (c .before .before .before .check .ensures) (c .before .checked2 .given .1) .0
+
 check-requires : tie.Need-check-requires
-check-requires c κs = search needs
+check-requires c κs = tt
 
 enum-known-checked : tie.Need-enum-known-checked
 enum-known-checked c = search needs
@@ -17,15 +22,15 @@ enum-known-checked c = search needs
 enum-known-checked-2 : tie.Need-enum-known-checked-2
 enum-known-checked-2 c = search needs
 
-cast-walked : tie.Need-cast-walked
-cast-walked c = search needs
+cast-verdict-of : tie.Need-cast-verdict-of
+cast-verdict-of c = search needs
 
-cast-walked-2 : tie.Need-cast-walked-2
-cast-walked-2 c = search needs
+cast-verdict-of-2 : tie.Need-cast-verdict-of-2
+cast-verdict-of-2 c = search needs
 
-walked-requires : tie.Need-walked-requires
-walked-requires c κs =
-    accepted-so _ (c .before .before .before .check .ensures) (c .before .checked2 .given .1)
+verdict-of-requires : tie.Need-verdict-of-requires
+verdict-of-requires c κs =
+    accepted-so _ (c .before .before .before .check .ensures) (c .before .checked2 .given .1) .1
 
 enum-told : tie.Need-enum-told
 enum-told c = search needs
@@ -38,30 +43,31 @@ enum-known-given-2 c = search needs
 
 returns : tie.Need-returns
 returns c = (
-  reply-refused _ (refused-so _ (c .before .before .before .check .ensures) (c .before .checked .given .1)),
-  λ e. absurd (let z : _≡_ {A = ℕ} 0 1 = cc in omega arith),
+  otherwise-refused _ (refused-so _ (c .before .before .before .check .ensures) (c .before .checked .given .1)),
+  refused-not-fits _,
 )
 
 returns-2 : tie.Need-returns-2
 returns-2 c =
-    let told = c .before .before .before in
-    let counted = accepted-so _ (told .before .before .before .check .ensures) (told .before .checked2 .given .1) in
-    let nothing = sym (ap found (c .enum-told .given .1)) ∙ c .before .before .walked .ensures in
-    (reply-given _ (counted .accepted .unrefused) nothing, λ e. given-safe _ (counted .accepted .unrefused) nothing)
+    let judged = c .before .before in
+    let nothing = sym (ap judgement (c .enum-told .given .1)) ∙ judged .verdict-of .ensures in
+    (reply-given _ (kept (judged .before)) nothing, λ e. given-safe _ (kept (judged .before)) nothing)
 
 returns-3 : tie.Need-returns-3
 returns-3 c =
-    let walk = c .before .before .before in
-    let told = walk .before in
-    let counted = accepted-so _ (told .before .before .before .check .ensures) (told .before .checked2 .given .1) in
-    (reply-given _ (counted .accepted .unrefused) (sym (ap found (c .before .given .given .1)) ∙ walk .walked .ensures), λ e. absurd (let z : _≡_ {A = ℕ} 0 1 = cc in omega arith))
+    let judged = c .before .before .before in
+    let late = sym (ap judgement (c .before .given .given .1)) ∙ judged .verdict-of .ensures in (
+      reply-given _ (kept (judged .before)) late,
+      late-not-fits _,
+    )
 
 returns-4 : tie.Need-returns-4
 returns-4 c =
-    let walk = c .before .before .before in
-    let told = walk .before in
-    let counted = accepted-so _ (told .before .before .before .check .ensures) (told .before .checked2 .given .1) in
-    (reply-given _ (counted .accepted .unrefused) (sym (ap found (c .before .given2 .given .1)) ∙ walk .walked .ensures), λ e. absurd (let z : _≡_ {A = ℕ} 0 1 = cc in omega arith))
+    let judged = c .before .before .before in
+    let opened = sym (ap judgement (c .before .given2 .given .1)) ∙ judged .verdict-of .ensures in (
+      reply-given _ (kept (judged .before)) opened,
+      open-not-fits _ _,
+    )
 
 pub judge-spec : {M : Type 1} → statement M
 judge-spec =
@@ -70,9 +76,9 @@ judge-spec =
     check-requires
     enum-known-checked
     enum-known-checked-2
-    cast-walked
-    cast-walked-2
-    walked-requires
+    cast-verdict-of
+    cast-verdict-of-2
+    verdict-of-requires
     enum-told
     enum-known-given
     enum-known-given-2

@@ -5,7 +5,7 @@ use Rattle.model.specs.Inside.{may?}
 use Rattle.model.proofs.Accepted.{sizes-divisor}
 use Rattle.sheet.specs.Inside.{machineAt}
 use Rattle.sheet.proofs.Entries.{entry-sizes}
-use Rattle.walk.proofs.Digits.{bit-limit, Left, left-room, left-end, left-back, left-whole}
+use Rattle.walk.proofs.Binary.{bit-limit, Left, left-room, left-end, left-back, left-whole}
 use Rattle.walk.proofs.Mask.{marks-off}
 use Rattle.walk.proofs.mask_at.Statement.{statement}
 use Rattle.walk.proofs.mask_at.Tie as tie
@@ -17,7 +17,7 @@ Inv-loop sheet entry divisor t mask₀ j₀ mask j =
 abbrev μ-loop : tie.MeasureT-loop
 μ-loop sheet entry divisor t mask₀ j₀ mask j = j
 
--- the action of a turn is one of the machine's, and there is room for its digit
+-- the action of a step is one of the machine's, and there is room for its digit
 known : (c : tie.In-loop Inv-loop μ-loop)
     → let start = c .before .before .before .before .args in
     c .before .loop .j - 1 < count (machineAt (start .sheet .now) (start .entry))
@@ -37,7 +37,7 @@ returns : tie.Need-returns Inv-loop μ-loop
 returns c = marks-off _ _ _ (c .before .before .pre .1) (c .if1 .taken)
 
 loop-holds : tie.Need-loop-holds Inv-loop μ-loop
-loop-holds c = rw (c .before .before .pre .0 .read .actions) left-end
+loop-holds c = rw (c .before .before .pre .0 .has .actions) left-end
 
 sub-j : tie.Need-sub-j Inv-loop μ-loop
 sub-j c = omega arith
@@ -58,8 +58,8 @@ loop-less c = omega arith
 
 loop-again : tie.Need-loop-again Inv-loop μ-loop
 loop-again c =
-    let turn = c .before in
-    left-back _ (turn .before .loop .inv) (turn .loop-test .taken) (c .may-bit .ensures)
+    let step = c .before in
+    left-back _ (step .before .loop .inv) (step .loop-test .taken) (c .may-bit .ensures)
 
 returns-2 : tie.Need-returns-2 Inv-loop μ-loop
 returns-2 c = record { is = left-whole (c .before .loop .inv) (c .loop-test .left) }

@@ -4,32 +4,32 @@ use native.Mathlib.Omega.{arith}
 use Rattle.model.specs.Machine.{count}
 use Rattle.sheet.specs.Inside.{machineAt}
 use Rattle.sheet.proofs.Entries.{entry-sizes}
-use Rattle.walk.proofs.Mask.{rest-more}
+use Rattle.walk.proofs.Mask.{unseen-more}
 use Rattle.walk.proofs.Row.{entry-joins, Ticking, ticking-begin, ticking-push, ticking-skip, ticking-end}
 use borrow.Author.Needs.{needs}
 use Rattle.walk.proofs.tick.Statement.{statement}
 use Rattle.walk.proofs.tick.Tie as tie
 
 abbrev Inv-loop : tie.InvT-loop
-Inv-loop sheet entry mask way old row₀ left₀ j₀ row left j = Ticking way (machineAt sheet entry) mask old j left row
+Inv-loop sheet entry mask way old row₀ unseen₀ j₀ row unseen j = Ticking way (machineAt sheet entry) mask old j unseen row
 
 abbrev μ-loop : tie.MeasureT-loop
-μ-loop sheet entry mask way old row₀ left₀ j₀ row left j = left
+μ-loop sheet entry mask way old row₀ unseen₀ j₀ row unseen j = unseen
 
--- the action of a turn is one of the machine's
+-- the action of a step is one of the machine's
 known : (c : tie.In-loop Inv-loop μ-loop)
     → let start = c .before .before .before .args in
     c .before .loop .j < count (machineAt (start .sheet .now) (start .entry))
-known c = rest-more (c .before .loop .inv .rest) (c .before .before .before .pre .1 .marks) (c .loop-test .taken)
+known c = unseen-more (c .before .loop .inv .others) (c .before .before .before .pre .1 .marks) (c .loop-test .taken)
 
 loop-holds : tie.Need-loop-holds Inv-loop μ-loop
 loop-holds c = ticking-begin (search needs)
 
 push-requires : tie.Need-push-requires Inv-loop μ-loop
 push-requires c κs =
-    let turn = c .before .before .before in
-    let (entry, ready) = turn .before .before .before .pre in
-    (entry-joins entry (known turn) _ (search needs) (ready .small), turn .before .loop .inv .long)
+    let step = c .before .before .before in
+    let (entry, ready) = step .before .before .before .pre in
+    (entry-joins entry (known step) _ (search needs) (ready .small), step .before .loop .inv .long)
 
 add-j : tie.Need-add-j Inv-loop μ-loop
 add-j c =
@@ -41,11 +41,11 @@ loop-less c = omega arith
 
 loop-again : tie.Need-loop-again Inv-loop μ-loop
 loop-again c =
-    let turn = c .before in
-    let inv = turn .before .loop .inv in
-    let sizes = entry-sizes (turn .before .before .before .pre .0) in
-    ⊎-elim (λ w. rw (w .4) (ticking-push inv sizes (known turn) (w .0 .taken) (w .3 .ensures)))
-    (λ w. rw (w .1) (ticking-skip inv (known turn) (w .0 .left))) (c .if1 .came)
+    let step = c .before in
+    let inv = step .before .loop .inv in
+    let sizes = entry-sizes (step .before .before .before .pre .0) in
+    ⊎-elim (λ w. rw (w .4) (ticking-push inv sizes (known step) (w .0 .taken) (w .3 .ensures)))
+    (λ w. rw (w .1) (ticking-skip inv (known step) (w .0 .left))) (c .if1 .came)
 
 returns : tie.Need-returns Inv-loop μ-loop
 returns c = ticking-end (c .before .loop .inv) (c .loop-test .left)

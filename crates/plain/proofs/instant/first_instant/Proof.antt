@@ -2,7 +2,7 @@ use Prim.Native.Nat.{_-_}
 use mathlib.Core.Path.{sym, _∙_}
 use native.Mathlib.Omega.{arith}
 use Rattle.sheet.specs.Inside.{machineAt}
-use Rattle.plain.proofs.Found.{Passed, passed-none, passed-more, passed-first}
+use Rattle.plain.proofs.Instants.{Passed, passed-none, passed-more, passed-first}
 use Rattle.plain.proofs.instant.first_instant.Statement.{statement}
 use Rattle.plain.proofs.instant.first_instant.Tie as tie
 
@@ -31,8 +31,8 @@ loop-less c = omega arith
 
 loop-again : tie.Need-loop-again Inv-loop μ-loop
 loop-again c =
-    let turn = c .before .before in
-    passed-more (turn .before .loop .inv) (turn .loop-test .taken) (sym (c .before .has-instant .ensures) ∙ c .if1 .left)
+    let step = c .before .before in
+    passed-more (step .before .loop .inv) (step .loop-test .taken) (sym (c .before .has-instant .ensures) ∙ c .if1 .left)
 
 returns-2 : tie.Need-returns-2 Inv-loop μ-loop
 returns-2 c = passed-first (c .before .loop .inv) (λ l. absurd (omega arith))

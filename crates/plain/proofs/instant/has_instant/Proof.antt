@@ -6,7 +6,7 @@ use mathlib.Core.Bool.{false}
 use mathlib.Core.Option.{none, some}
 use Rattle.model.specs.Reckon.{instant?}
 use Rattle.sheet.specs.Inside.{machineAt}
-use Rattle.plain.proofs.Found.{hasInstant-by}
+use Rattle.plain.proofs.Instants.{hasInstant-by}
 use Rattle.plain.proofs.instant.has_instant.Statement.{statement}
 use Rattle.plain.proofs.instant.has_instant.Tie as tie
 
@@ -22,15 +22,15 @@ loop-holds c = λ j l. absurd (omega arith)
 has-instant-requires : tie.Need-has-instant-requires Inv-loop μ-loop
 has-instant-requires c κs =
     let entry = c .before .before .before .before .pre in
-    (entry, omega (arith, entry .read .actions, c .if1 .taken))
+    (entry, omega (arith, entry .has .actions, c .if1 .taken))
 
 returns : tie.Need-returns Inv-loop μ-loop
 returns c =
-    let turn = c .before .before in
-    sym (hasInstant-by _ _ (some (turn .before .before .loop .k)) (
-      omega (arith, turn .before .before .before .before .pre .read .actions, turn .if1 .taken),
+    let step = c .before .before in
+    sym (hasInstant-by _ _ (some (step .before .before .loop .k)) (
+      omega (arith, step .before .before .before .before .pre .has .actions, step .if1 .taken),
       sym (c .before .has-instant .ensures) ∙ c .if2 .taken,
-      turn .before .before .loop .inv,
+      step .before .before .loop .inv,
     ))
 
 add-k : tie.Need-add-k Inv-loop μ-loop
@@ -41,13 +41,13 @@ loop-less c = omega arith
 
 loop-again : tie.Need-loop-again Inv-loop μ-loop
 loop-again c =
-    let turn = c .before .before .before .before in
-    below-more _ _ (turn .loop .inv) (sym (c .before .has-instant .ensures) ∙ c .if2 .left)
+    let step = c .before .before .before .before in
+    below-more _ _ (step .loop .inv) (sym (c .before .has-instant .ensures) ∙ c .if2 .left)
 
 returns-2 : tie.Need-returns-2 Inv-loop μ-loop
 returns-2 c =
     let entry = c .before .before .before .before .pre in
-    let all = entry .read .actions in
+    let all = entry .has .actions in
     sym (hasInstant-by _ _ none (λ j l. c .before .before .loop .inv j (omega (arith, all, c .if1 .left))))
 
 pub has-instant-spec : {M : Type 1} → statement M

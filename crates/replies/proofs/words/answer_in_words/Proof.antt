@@ -7,8 +7,8 @@ use borrow.Author.Needs.{needs}
 use Rattle.replies.proofs.words.answer_in_words.Statement.{statement}
 use Rattle.replies.proofs.words.answer_in_words.Tie as tie
 
-mark-requires : tie.Need-mark-requires
-mark-requires c κs = search needs
+guard-requires : tie.Need-guard-requires
+guard-requires c κs = search needs
 
 sub-end : tie.Need-sub-end
 sub-end c = search needs
@@ -77,7 +77,7 @@ pub answer-in-words-spec : {M : Type 1} → statement M
 answer-in-words-spec =
     tie.close
     (tie.spec
-    mark-requires
+    guard-requires
     sub-end
     sub-reply-in
     part-reply-in-start

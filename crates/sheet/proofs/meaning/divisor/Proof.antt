@@ -15,13 +15,13 @@ Inv-loop sheet entry d₀ j₀ d j =
 abbrev μ-loop : tie.MeasureT-loop
 μ-loop sheet entry d₀ j₀ d j = entry .actions - j
 
--- the action of a turn is one of the machine's
+-- the action of a step is one of the machine's
 has : (c : tie.Then1 Inv-loop μ-loop)
     → let start = c .before .before .before .before .args in
     HasAction (start .sheet .now) (start .entry) (c .before .before .loop .j)
 has c =
     let read = c .before .before .before .before .pre in
-    record { read = read; below = omega (arith, read .actions, c .if1 .taken) }
+    record { has = read; below = omega (arith, read .actions, c .if1 .taken) }
 
 loop-holds : tie.Need-loop-holds Inv-loop μ-loop
 loop-holds c = (omega arith, divisor-begin _)
@@ -40,10 +40,10 @@ loop-less c = omega arith
 
 loop-again : tie.Need-loop-again Inv-loop μ-loop
 loop-again c =
-    let turn = c .before .before in (
+    let step = c .before .before in (
       omega arith,
-      taking-more _ (turn .before .before .loop .inv .1) (has turn .below)
-          (c .gcd-of .ensures ∙ ap (gcd (turn .before .before .loop .divisor)) (c .before .period .ensures)),
+      taking-more _ (step .before .before .loop .inv .1) (has step .below)
+          (c .gcd-of .ensures ∙ ap (gcd (step .before .before .loop .divisor)) (c .before .period .ensures)),
     )
 
 returns : tie.Need-returns Inv-loop μ-loop

@@ -1,11 +1,11 @@
-use Rattle.verdict.proofs.Lengths.{Walked, walked-begin, walked-inside, walked-ticking, walked-idle}
+use Rattle.verdict.proofs.Lengths.{Walked, walked-begin, walked-inside, walked-before, walked-idle}
 use Rattle.verdict.proofs.Lengths.{walked-next, walked-light, walked-open, length-closes, length-late, room-now}
-use Rattle.verdict.proofs.Lengths.{machines-few, period-short, tick-place, level-small}
-use Rattle.verdict.specs.Inside.{stride, LevelAt}
-use Rattle.verdict.proofs.Half.{largestRequest}
+use Rattle.verdict.proofs.Lengths.{machines-few, period-short, tick-phase, level-small}
+use Rattle.level.specs.Inside.{stride, LevelAt}
+use Rattle.level.proofs.Half.{largestRequest}
 use Rattle.model.specs.Limits.{longestWindow}
 use Rattle.walk.proofs.Front.{row-ready, last-demand}
-use Rattle.sheet.proofs.Accepted.{machine-sizes}
+use Rattle.sheet.proofs.Entries.{machine-sizes}
 use Rattle.sheet.specs.Format.{decode}
 use Rattle.model.specs.Scan.{scan, slack}
 use Rattle.model.specs.Verdict.{gives}
@@ -20,11 +20,11 @@ use Rattle.verdict.proofs.starts.start_judged.Statement.{statement}
 use Rattle.verdict.proofs.starts.start_judged.Tie as tie
 
 abbrev Inv-loop : tie.InvT-loop
-Inv-loop sheet masks lowest machine start h level₀ slack₀ place₀ n₀ level slack place n =
-    (n ≤ longestWindow) × Walked sheet machine start h n level slack place
+Inv-loop sheet masks lowest machine start h level₀ slack₀ phase₀ n₀ level slack phase n =
+    (n ≤ longestWindow) × Walked sheet machine start h n level slack phase
 
 abbrev μ-loop : tie.MeasureT-loop
-μ-loop sheet masks lowest machine start h level₀ slack₀ place₀ n₀ level slack place n = longestWindow - n
+μ-loop sheet masks lowest machine start h level₀ slack₀ phase₀ n₀ level slack phase n = longestWindow - n
 
 -- the loop's head before a tick, and the function's entry, seen from the head and from after the tick
 abbrev head : tie.Joined1 Inv-loop μ-loop → tie.At-loop Inv-loop μ-loop
@@ -40,8 +40,8 @@ begun c = entered (head c)
 few : (c : tie.Start Inv-loop μ-loop) → (c .args .machine < 8) × (c .args .h ≤ stride)
 few c = (machines-few (c .pre .0) (c .pre .1), period-short (c .pre .0) (c .pre .1))
 
--- the place is below H
-inside : (c : tie.In-loop Inv-loop μ-loop) → c .before .loop .place < entered (c .before) .args .h
+-- the phase is below H
+inside : (c : tie.In-loop Inv-loop μ-loop) → c .before .loop .phase < entered (c .before) .args .h
 inside c =
     let start = entered (c .before) in
     walked-inside (start .pre .0) (start .pre .1) (c .before .loop .inv .1)
@@ -64,7 +64,7 @@ come : (c : tie.Joined1 Inv-loop μ-loop)
 come c =
     let start = entered (c .before .before .before) in
     let walked = c .before .before .before .loop .inv .1 in
-    let here = tick-place (start .pre .0) (start .pre .1) (walked .placed) in
+    let here = tick-phase (start .pre .0) (start .pre .1) (walked .placed) in
     ⊎-elim
     (λ w. rw (w .2) (w .1 .ensures .on (start .args .start) here (walked .stands)))
     (λ w. rw (w .1) (walked-idle (start .pre .0) (start .pre .1) walked (w .0 .left)))
@@ -86,7 +86,7 @@ room c =
     let start = begun join in
     let walked = head join .loop .inv .1 in
     room-now (start .pre .0) (start .pre .1) (come join) (near join) (left join) (c .before .if2 .left) (walked .roomy)
-    (c .slack-after .ensures) (walked .placed) (c .before .before .before .place-after .ensures)
+    (c .slack-after .ensures) (walked .placed) (c .before .before .before .phase-after .ensures)
 
 sizes : (c : tie.Start Inv-loop μ-loop) → MachineSizes (machineOf (decode (c .args .sheet .now)) (c .args .machine))
 sizes c = machine-sizes (c .pre .0 .accepted) _ (c .pre .1)
@@ -136,19 +136,19 @@ shared-slice-read-if1 c =
     omega (arith, inside (c .before), few start, start .pre .0 .lowered .long)
 
 cast-if1 : tie.Need-cast-if1 Inv-loop μ-loop
-cast-if1 c = omega (arith, c .shared-slice-known5 .given (c .before .before .loop .place))
+cast-if1 c = omega (arith, c .shared-slice-known5 .given (c .before .before .loop .phase))
 
 level-moved-requires : tie.Need-level-moved-requires Inv-loop μ-loop
 level-moved-requires c κs =
-    let turn = c .before .before in
-    let start = entered (turn .before) in
-    walked-ticking (start .pre .0) (start .pre .1) (turn .before .loop .inv .1) (turn .loop-test .taken)
+    let step = c .before .before in
+    let start = entered (step .before) in
+    walked-before (start .pre .0) (start .pre .1) (step .before .loop .inv .1) (step .loop-test .taken)
 
 add-n : tie.Need-add-n Inv-loop μ-loop
 add-n c = omega arith
 
-place-after-requires : tie.Need-place-after-requires Inv-loop μ-loop
-place-after-requires c κs = inside (c .before .before)
+phase-after-requires : tie.Need-phase-after-requires Inv-loop μ-loop
+phase-after-requires c κs = inside (c .before .before)
 
 add-if2 : tie.Need-add-if2 Inv-loop μ-loop
 add-if2 c = omega (arith, small (c .before .before))
@@ -207,7 +207,7 @@ loop-again c =
       omega (arith, near join),
       walked-next (start .pre .0) (start .pre .1) (come join) (near join) (left join) (roomy .before .if2 .left)
           (walked .roomy) (roomy .slack-after .ensures) (walked .placed)
-          (roomy .before .before .before .place-after .ensures)
+          (roomy .before .before .before .phase-after .ensures)
           (omega (arith, due (c .before), c .if4 .left)),
     )
 
@@ -223,7 +223,7 @@ loop-again-2 c =
       omega (arith, near join),
       walked-light (start .pre .0) (start .pre .1) (come join) (near join) (left join) (roomy .before .if2 .left)
           (walked .roomy) (roomy .slack-after .ensures) (walked .placed)
-          (roomy .before .before .before .place-after .ensures)
+          (roomy .before .before .before .phase-after .ensures)
           (c .if3 .left),
     )
 
@@ -255,7 +255,7 @@ start-judged-spec =
     cast-if1
     level-moved-requires
     add-n
-    place-after-requires
+    phase-after-requires
     add-if2
     returns
     slack-after-requires

@@ -1,0 +1,3 @@
+pub mod Moving
+pub mod Half
+pub mod Masking
