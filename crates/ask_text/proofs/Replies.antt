@@ -12,11 +12,15 @@ use Rattle.reply.specs.declared.Answer.{Answer}
 use Rattle.reply.specs.declared.Answer.the-variants.{Value, Refused}
 use Rattle.reply.specs.declared.Tabled.{Tabled}
 use Rattle.reply.specs.declared.Tabled.the-variants.{Filled, Refused as refusedWith}
+use Rattle.reply.specs.declared.Printed.{Printed}
+use Rattle.reply.specs.declared.Kind.the-variants.{Table, Critical}
+use Rattle.reply.specs.declared.Question.{Question}
 use Rattle.reply.specs.Reply.{Reply, answer, refused, _otherwise_}
 use Rattle.reply.specs.Lent.{unlessRefused, inFront}
 use Rattle.reply.specs.Answer.{paper}
 use Rattle.reply.specs.Tabled.{paper as tabledPaper}
 use Rattle.reply.proofs.Refusals.{orElse-none, enough}
+use Rattle.reply.proofs.Printing.{Promised, promised-unique}
 use Rattle.sheet.specs.Format.{decode}
 use Rattle.window.specs.Window.{questionRefusal}
 use Rattle.bounds.specs.Table.{requestTable, tableRefusal, tableReply, withTable, tableWords}
@@ -24,12 +28,8 @@ use Rattle.bounds.proofs.Filling.{listed-length}
 use Rattle.critical.specs.Critical.{sequenceOf, wordsOf, criticalRefusal, criticalReply, criticalWords}
 use Rattle.critical.specs.Critical.{longestWords, pairsIn}
 use Rattle.critical.proofs.Words.{words-pairs}
-use Rattle.reply.specs.declared.Printed.{Printed}
 use Rattle.text.specs.Text.{numberLine, refusedLine}
 use Rattle.text.specs.Inside.{Put, Prints}
-use Rattle.reply.proofs.Printing.{Promised, promised-unique}
-use Rattle.reply.specs.declared.Kind.the-variants.{Table, Critical}
-use Rattle.reply.specs.declared.Question.{Question}
 use Rattle.ask_text.specs.Ask.{numberLines, pairLines, replyText, refusalIn, lent}
 use Rattle.ask_text.specs.Ask.{answerReply, written, answerText, answerRefusal, askText, askRefusal}
 use Rattle.ask_text.proofs.Lines.{number-alone, no-numbers}

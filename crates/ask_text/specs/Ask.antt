@@ -6,6 +6,9 @@ use lib.ListN.{replicate}
 use Rattle.model.specs.Machine.{machineOf}
 use Rattle.model.specs.Legal.{Pair}
 use Rattle.reply.specs.declared.Refusal.{Refusal}
+use Rattle.reply.specs.declared.Kind.{Kind}
+use Rattle.reply.specs.declared.Kind.the-variants.{Request, Demand, Table, Critical, Plain}
+use Rattle.reply.specs.declared.Question.{Question}
 use Rattle.reply.specs.Reply.{Reply, answer, refused}
 use Rattle.sheet.specs.Format.{decode}
 use Rattle.bounds.specs.Bounds.{requestReply, demandReply}
@@ -13,9 +16,6 @@ use Rattle.bounds.specs.Table.{requestTable, tableReply}
 use Rattle.plain.specs.Plain.{plainReply}
 use Rattle.critical.specs.Critical.{longestWords, sequenceOf, criticalReply}
 use Rattle.text.specs.Text.{numberLine, refusedLine}
-use Rattle.reply.specs.declared.Kind.{Kind}
-use Rattle.reply.specs.declared.Kind.the-variants.{Request, Demand, Table, Critical, Plain}
-use Rattle.reply.specs.declared.Question.{Question}
 
 -- numbers, one a line
 unfoldable pub numberLines : List ℕ → List ℕ

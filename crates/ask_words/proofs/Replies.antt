@@ -5,12 +5,12 @@ use mathlib.Core.Bool.{Bool, true}
 use mathlib.Core.List.{List}
 use mathlib.Core.Option.{Option}
 use borrow.Author.Tests.{eq-eqb, ne-eqb}
-use Rattle.rules.specs.Rules.{same}
-use Rattle.rules.proofs.Tests.{same-test}
-use Rattle.text.specs.Text.{readNumber}
 use Rattle.reply.specs.declared.Kind.{Kind}
 use Rattle.reply.specs.declared.Asked.{Asked}
 use Rattle.reply.specs.declared.Asked.the-variants.{Nothing}
+use Rattle.rules.specs.Rules.{same}
+use Rattle.rules.proofs.Tests.{same-test}
+use Rattle.text.specs.Text.{readNumber}
 use Rattle.ask_words.specs.Asks.{kindOf, asksOf, asks}
 
 -- the name of a question, as it is compared

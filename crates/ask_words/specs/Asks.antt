@@ -4,12 +4,12 @@ use mathlib.Core.Bool.{cond}
 use mathlib.Core.List.{List}
 use mathlib.Core.Option.{Option, none, some}
 use lib.Dec.{eqb}
-use Rattle.rules.specs.Rules.{same}
-use Rattle.text.specs.Text.{ascii, readNumber}
 use Rattle.reply.specs.declared.Kind.{Kind}
 use Rattle.reply.specs.declared.Kind.the-variants.{Request, Demand, Table, Critical, Plain}
 use Rattle.reply.specs.declared.Asked.{Asked}
 use Rattle.reply.specs.declared.Asked.the-variants.{This, Nothing}
+use Rattle.rules.specs.Rules.{same}
+use Rattle.text.specs.Text.{ascii, readNumber}
 
 -- the question that a word names
 abbrev pub kindOf : List ℕ → Option Kind

@@ -17,10 +17,10 @@ use Rattle.model.proofs.Tests.{both-true}
 use Rattle.model.proofs.Names.{closed-onward}
 use Rattle.model.proofs.Critical.{best-waits, firstBest-waits, firstBest-takes}
 use Rattle.walk.specs.Inside.{Marks, AllMarked}
+use Rattle.rows.specs.Inside.{Rows}
 use Rattle.critical.specs.declared.forward.Leaves.{Leaves}
 use Rattle.critical.specs.declared.forward.Leaves.the-variants.{Any, State}
 use Rattle.critical.specs.Critical.{longestWords, wordsOf}
-use Rattle.rows.specs.Inside.{Rows}
 use Rattle.critical.specs.Inside.{Holds, makesAt, FirstMaking}
 use Rattle.critical.proofs.Words.{words-length, pair-written}
 use Rattle.critical.proofs.Making.{allows, makes-is}

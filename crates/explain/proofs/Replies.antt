@@ -6,12 +6,12 @@ use native.Mathlib.Omega.{arith}
 use borrow.Author.Tests.{ne-eqb, lt-ltb, le-ltb}
 use lib.ListN.{length}
 use Rattle.reply.specs.declared.Refusal.{Refusal}
-use Rattle.text.specs.Text.{ascii, spaced}
 use Rattle.reply.specs.Printed.{printedLength, printed}
-use Rattle.explain.specs.Words.{sheetReason, questionReason, place, explanation}
+use Rattle.reply.proofs.Printing.{printed-unique}
+use Rattle.text.specs.Text.{ascii, spaced}
 use Rattle.text.specs.Inside.{Put}
 use Rattle.text.proofs.Laws.{put-nothing}
-use Rattle.reply.proofs.Printing.{printed-unique}
+use Rattle.explain.specs.Words.{sheetReason, questionReason, place, explanation}
 
 -- a reason of at most 100 characters, for the number that a `match` has found
 pub reason-put : {before after : List ℕ} {at r n k : ℕ} (reason : ℕ → List ℕ) → n ≡ k → Put before at (reason k) r after

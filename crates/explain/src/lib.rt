@@ -2,8 +2,8 @@
 ghost use mathlib.Core.Path.{_≡_};
 ghost use Prim.Native.Nat.{_+_, _≤_};
 ghost use lib.ListN.{length};
-ghost use Rattle.text.specs.Inside.{Put};
 ghost use Rattle.reply.specs.Printed.{printedLength, printed};
+ghost use Rattle.text.specs.Inside.{Put};
 ghost use Rattle.explain.specs.Words.{sheetReason, questionReason, reason, place, explanation};
 use reply::Refusal;
 use text::put_byte;

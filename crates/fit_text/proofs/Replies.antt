@@ -11,16 +11,16 @@ use Rattle.model.specs.Machine.{count, machineOf, hyperperiod}
 use Rattle.model.specs.Reckon.{request}
 use Rattle.model.specs.Verdict.{Judgement, verdict}
 use Rattle.reply.specs.declared.Refusal.{Refusal}
+use Rattle.reply.specs.declared.Printed.{Printed}
+use Rattle.reply.proofs.Printing.{Promised, promised-unique}
 use Rattle.sheet.specs.Format.{machineCount, decode}
-use Rattle.rules.specs.Check.{refusalOf}
 use Rattle.sheet.specs.Inside.{Counted}
 use Rattle.sheet.proofs.Decode.{decode-count}
+use Rattle.rules.specs.Check.{refusalOf}
 use Rattle.window.specs.Inside.{Proper}
-use Rattle.reply.specs.declared.Printed.{Printed}
 use Rattle.text.specs.Text.{ascii, line, refusedLine}
 use Rattle.text.specs.Inside.{Put, Prints}
 use Rattle.text.proofs.Laws.{put-then, put-nothing}
-use Rattle.reply.proofs.Printing.{Promised, promised-unique}
 use Rattle.fit_text.specs.Fit.{machineLine, machineLines, verdictLine, acceptedText, fitText}
 
 -- the window [0, H) may be asked about

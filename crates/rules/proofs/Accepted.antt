@@ -11,18 +11,18 @@ use borrow.Author.Tests.{ltb-true, leb-true, eqb-true}
 use Rattle.model.specs.Limits.{longestPeriod, longestTime, longestHyperperiod}
 use Rattle.model.specs.Machine.{Action, Machine, count, actionOf, machineOf, divisor, hyperperiod}
 use Rattle.model.specs.Sizes.{Between, ActionSizes, MachineSizes, Sizes}
+use Rattle.model.specs.Search.{firstOf}
 use Rattle.model.proofs.Tests.{both-true}
 use Rattle.model.proofs.Sizes.{hyperperiod-positive}
-use Rattle.model.specs.Search.{firstOf}
 use Rattle.model.proofs.Search.{first-none}
 use Rattle.reply.specs.Reply.{refusal}
 use Rattle.reply.proofs.Refusals.{unless-none, orElse-none}
 use Rattle.sheet.specs.Format.{actionsBefore, actionSize, entrySize, entry, trailerOffset, machineCount, decode}
+use Rattle.sheet.specs.Inside.{TrailerKept, EntriesKept, OffsetsKept, PeriodsKept, Accepted}
+use Rattle.sheet.proofs.Decode.{decode-count, decode-machine, decode-actions}
 use Rattle.rules.specs.Rules.{rule1, rule3, rule4, rule5, rule6, rule7, rule8, rule9}
 use Rattle.rules.specs.Rules.{between, trailerInRange, entryInRange, actionInRange, deadlineInRange}
 use Rattle.rules.specs.Rules.{entryRefusal, offsetRefusal, endRefusal, actionRefusal, machineRefusal}
-use Rattle.sheet.specs.Inside.{TrailerKept, EntriesKept, OffsetsKept, PeriodsKept, Accepted}
-use Rattle.sheet.proofs.Decode.{decode-count, decode-machine, decode-actions}
 use Rattle.rules.proofs.Tests.{between-true}
 
 module _ (b : List ℕ) where

@@ -15,9 +15,9 @@ use Rattle.reply.specs.Checked.{paper}
 use Rattle.reply.proofs.Refusals.{orElse-assoc, orElse-none, orElse-refused, orElse-clear}
 use Rattle.reply.proofs.Unique.{checked-unique}
 use Rattle.sheet.specs.Format.{machineCount, decode}
+use Rattle.sheet.specs.Inside.{TrailerKept, PeriodsKept, Counted, Accepted as IsAccepted}
 use Rattle.rules.specs.Rules.{rule1, rule2, rule3, rule4, rule5, rule6, rule7, rule8, rule9}
 use Rattle.rules.specs.Check.{refusalOf, checkReply}
-use Rattle.sheet.specs.Inside.{TrailerKept, PeriodsKept, Counted, Accepted as IsAccepted}
 use Rattle.rules.specs.Inside.{trailerRules, firstRules}
 use Rattle.rules.proofs.Accepted.{trailer-so, entries-so, offsets-so, periods-so, accepted}
 

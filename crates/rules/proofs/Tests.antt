@@ -17,9 +17,9 @@ use Rattle.model.proofs.Tests.{both-true, test-same}
 use Rattle.reply.specs.Reply.{refusal}
 use Rattle.reply.proofs.Refusals.{equal-broken, equal-kept}
 use Rattle.sheet.specs.Format.{actionsBefore, actionSize, entry, trailerOffset, machineCount, lastFour, sfs1, decode}
+use Rattle.sheet.proofs.Decode.{decode-machine, decode-actions}
 use Rattle.rules.specs.Rules.{between, same, entryInRange, endRefusal}
 use Rattle.rules.specs.Inside.{keeps}
-use Rattle.sheet.proofs.Decode.{decode-machine, decode-actions}
 
 pub between-true : (low high n : ℕ) → between low high n ≡ true → Between low high n
 between-true low high n e =

@@ -5,10 +5,10 @@ use mathlib.Core.List.{List, _++_}
 use mathlib.Core.Option.{Option, none, some}
 use lib.ListN.{length, take, drop}
 use Rattle.reply.specs.declared.Refusal.{Refusal}
-use Rattle.text.specs.declared.Number.{Number}
-use Rattle.text.specs.declared.Number.the-variants.{Value, Malformed}
 use Rattle.reply.specs.declared.Printed.{Printed}
 use Rattle.reply.specs.Printed.{handed}
+use Rattle.text.specs.declared.Number.{Number}
+use Rattle.text.specs.declared.Number.the-variants.{Value, Malformed}
 
 -- the text is put at `at`, everything else stays, and the next piece goes to r
 pub record Put (before : List ℕ) (at : ℕ) (text : List ℕ) (r : ℕ) (after : List ℕ) : Type 0 where

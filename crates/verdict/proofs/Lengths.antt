@@ -26,9 +26,9 @@ use Rattle.walk.proofs.Mask.{marks-remainder}
 use Rattle.walk.proofs.Front.{row-zeros, last-begin, last-none}
 use Rattle.level.specs.declared.Level.{Level}
 use Rattle.level.specs.Inside.{ProgressAt, progressOf, stride, Phase, LevelAt, Begun, BeforeTick}
-use Rattle.verdict.specs.Inside.{MaskedSheet}
 use Rattle.level.proofs.Moving.{moved-not}
 use Rattle.level.proofs.Half.{largestRequest, request-small, requests-small}
+use Rattle.verdict.specs.Inside.{MaskedSheet}
 
 -- the lengths up to n are done, and the walk has come to a phase
 pub record Walked (b : List ℕ) (i s h n : ℕ) (level : Level) (room phase : ℕ) : Type 0 where

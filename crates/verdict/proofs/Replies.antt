@@ -16,8 +16,8 @@ use Rattle.reply.specs.Verdict.{paper}
 use Rattle.reply.proofs.Refusals.{otherwise-answered}
 use Rattle.reply.proofs.Unique.{verdict-unique}
 use Rattle.sheet.specs.Format.{machineCount, decode}
-use Rattle.rules.specs.Check.{refusalOf}
 use Rattle.sheet.proofs.Decode.{decode-count}
+use Rattle.rules.specs.Check.{refusalOf}
 use Rattle.rules.proofs.Replies.{not-refused}
 use Rattle.verdict.specs.Judge.{judged, verdictReply}
 

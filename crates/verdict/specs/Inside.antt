@@ -4,8 +4,7 @@ use mathlib.Core.Path.{_≡_}
 use mathlib.Core.List.{List}
 use mathlib.Core.Option.{Option, none, some, Option·getD}
 use Rattle.model.specs.Machine.{hyperperiod}
-use Rattle.model.specs.Verdict.{Judgement}
-use Rattle.model.specs.Verdict.{Fits as fits, Late as late, Open as opened}
+use Rattle.model.specs.Verdict.{Judgement, Fits as fits, Late as late, Open as opened}
 use Rattle.sheet.specs.Format.{decode}
 use Rattle.sheet.specs.Inside.{Accepted}
 use Rattle.level.specs.Inside.{Masks, Lowest}
