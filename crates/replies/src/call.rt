@@ -1,5 +1,5 @@
-// A question: six words, which are call, machine, from, to, the number of words lent and the number of bytes of the
-// sheet; then the sheet. Calls: 0 check, 1 request, 2 demand, 3 table, where `to` is the table's length, 4 critical,
+// A call: six words, which are its number, machine, from, to, the number of words lent and the number of bytes of the
+// sheet; then the sheet. Numbers: 0 check, 1 request, 2 demand, 3 table, where `to` is the table's length, 4 critical,
 // 5 plain, 6 judge.
 ghost use mathlib.Core.Path.{_≡_};
 ghost use Prim.Native.Nat.{_≤_};
@@ -10,13 +10,13 @@ use libc::STDIN_FILENO;
 use number::read_le32;
 
 pub(crate) struct Call {
-    pub(crate) call: u32,
+    pub(crate) number: u32,
     pub(crate) machine: u32,
     pub(crate) from: u32,
     pub(crate) to: u32,
 }
 
-// Reads the next question and writes its reply. False where there is no question: the input ends, no call has the
+// Reads the next call and writes its reply. False where there is none: the input ends, no call has the
 // number, or more is lent or sent than there is room for; and where nothing more can be written.
 pub(crate) fn answer_next(room: &mut [u8], words: &mut [u32], bytes: &mut [u8]) -> bool
     requires { ⌜ (length (now room) ≡ 4096) × (length (now words) ≡ 4128) × (length (now bytes) ≡ 16536) ⌝ }
@@ -36,33 +36,33 @@ pub(crate) fn answer_next(room: &mut [u8], words: &mut [u32], bytes: &mut [u8]) 
     if io::read_full(STDIN_FILENO, &mut room[..size]) < size {
         return false;
     }
-    let question = call_in(&head);
+    let call = call_in(&head);
     let used = lent + 2 * words::GUARDS;
-    answer(question, &room[..size], &mut words[..used], bytes)
+    answer(call, &room[..size], &mut words[..used], bytes)
 }
 
 fn call_in(head: &[u8; 24]) -> Call {
     Call {
-        call: read_le32(head, 0),
+        number: read_le32(head, 0),
         machine: read_le32(head, 4),
         from: read_le32(head, 8),
         to: read_le32(head, 12),
     }
 }
 
-// Answers a question, whose call may be lent the words between the guards.
-fn answer(question: Call, sheet: &[u8], words: &mut [u32], bytes: &mut [u8]) -> bool
+// Answers a call, which may be lent the words between the guards.
+fn answer(call: Call, sheet: &[u8], words: &mut [u32], bytes: &mut [u8]) -> bool
     requires { ⌜ (16 ≤ length (now words)) × (length (now words) ≤ 4128) × (length (now bytes) ≡ 16536) ⌝ }
 {
-    let call = question.call;
-    if 6 < call {
+    let number = call.number;
+    if 6 < number {
         return false;
     }
-    if call == 3 {
-        return words::answer_in_words(question, sheet, words, bytes);
+    if number == 3 {
+        return words::answer_in_words(call, sheet, words, bytes);
     }
-    if call == 4 {
-        return words::answer_in_words(question, sheet, words, bytes);
+    if number == 4 {
+        return words::answer_in_words(call, sheet, words, bytes);
     }
-    words::write_reply(replied::reply(question, sheet))
+    words::write_reply(replied::reply(call, sheet))
 }

@@ -9,13 +9,13 @@ use reply::Verdict;
 
 pub(crate) type Reply = [u32; 6];
 
-// The reply to a question whose call is lent no words.
-pub(crate) fn reply(question: Call, sheet: &[u8]) -> Reply {
-    let machine = question.machine;
-    let from = question.from;
-    let to = question.to;
-    let call = question.call;
-    match call {
+// The reply to a call that is lent no words.
+pub(crate) fn reply(call: Call, sheet: &[u8]) -> Reply {
+    let machine = call.machine;
+    let from = call.from;
+    let to = call.to;
+    let number = call.number;
+    match number {
         0 => checked(saglubitan::check(sheet)),
         1 => answered(saglubitan::request(sheet, machine, from, to)),
         2 => answered(saglubitan::demand(sheet, machine, from, to)),
@@ -24,12 +24,12 @@ pub(crate) fn reply(question: Call, sheet: &[u8]) -> Reply {
     }
 }
 
-// The reply to a question whose call is lent words, which it may write.
-pub(crate) fn reply_in(question: Call, sheet: &[u8], words: &mut [u32]) -> Reply {
-    let machine = question.machine;
-    let from = question.from;
-    let to = question.to;
-    if question.call == 3 {
+// The reply to a call that is lent words, which it may write.
+pub(crate) fn reply_in(call: Call, sheet: &[u8], words: &mut [u32]) -> Reply {
+    let machine = call.machine;
+    let from = call.from;
+    let to = call.to;
+    if call.number == 3 {
         return tabled(saglubitan::table(sheet, machine, from, to, words));
     }
     answered(saglubitan::critical(sheet, machine, from, to, words))

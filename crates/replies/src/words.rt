@@ -17,18 +17,13 @@ pub(crate) fn write_reply(reply: Reply) -> bool {
     io::write_all(STDOUT_FILENO, &bytes)
 }
 
-// Answers a question whose call is lent the words between the guards; writes the reply, and all words after the call.
-pub(crate) fn answer_in_words(
-    question: Call,
-    sheet: &[u8],
-    words: &mut [u32],
-    bytes: &mut [u8],
-) -> bool
+// Answers a call that is lent the words between the guards; writes the reply, and all words after the call.
+pub(crate) fn answer_in_words(call: Call, sheet: &[u8], words: &mut [u32], bytes: &mut [u8]) -> bool
     requires { ⌜ (16 ≤ length (now words)) × (length (now words) ≤ 4128) × (length (now bytes) ≡ 16536) ⌝ }
 {
     guard(words);
     let end = words.len() - GUARDS;
-    let reply = replied::reply_in(question, sheet, &mut words[GUARDS..end]);
+    let reply = replied::reply_in(call, sheet, &mut words[GUARDS..end]);
     let used = 24 + 4 * words.len();
     put_words(&reply, &mut bytes[..24]);
     put_words(words, &mut bytes[24..used]);

@@ -1,5 +1,5 @@
-// What calls answer: a refusal with its number and place, or what a call gives where nothing is refused.
-// Definitions: specs/Reply.antt and Lent.antt, and a file for each answer.
+// What calls answer: a refusal with its number and place, or what a call gives where nothing is refused; and questions.
+// Definitions: specs/Reply.antt, Lent.antt and Printed.antt, and a file for each answer.
 ghost use mathlib.Core.Path.{_≡_};
 ghost use Rattle.reply.specs.Reply.{refusal};
 

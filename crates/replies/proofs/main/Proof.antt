@@ -1,4 +1,4 @@
--- The room keeps its size; the measure is how many questions are left.
+-- The room keeps its size; the measure is how many calls are left.
 use Prim.Native.Nat.{_≤_, _-_}
 use mathlib.Core.Path.{_≡_}
 use lib.ListN.{length}
@@ -7,11 +7,11 @@ use Rattle.replies.proofs.main.Statement.{statement}
 use Rattle.replies.proofs.main.Tie as tie
 
 abbrev Inv-loop : tie.InvT-loop
-Inv-loop questions sheet₀ words₀ bytes₀ answered₀ sheet words bytes answered =
-    (length sheet ≡ 4096) × (length words ≡ 4128) × (length bytes ≡ 16536) × (answered ≤ questions)
+Inv-loop calls sheet₀ words₀ bytes₀ answered₀ sheet words bytes answered =
+    (length sheet ≡ 4096) × (length words ≡ 4128) × (length bytes ≡ 16536) × (answered ≤ calls)
 
 abbrev μ-loop : tie.MeasureT-loop
-μ-loop questions sheet₀ words₀ bytes₀ answered₀ sheet words bytes answered = questions - answered
+μ-loop calls sheet₀ words₀ bytes₀ answered₀ sheet words bytes answered = calls - answered
 
 slice-aggregate-read-full : tie.Need-slice-aggregate-read-full Inv-loop μ-loop
 slice-aggregate-read-full c = search needs
