@@ -1,7 +1,7 @@
 // What the words of `ask`'s command line ask. Definitions: specs/Asks.antt.
 ghost use mathlib.Core.Path.{_≡_};
 ghost use Rattle.ask_words.specs.Asks.{kindOf, asks};
-ghost use Rattle.ask_words.specs.Inside.{paper as Name·paper};
+ghost use Rattle.ask_words.specs.Inside.{paper};
 use reply::Asked;
 use reply::Kind;
 use reply::Question;
@@ -14,7 +14,7 @@ pub(crate) enum Name {
 
 // Reads the name of a question.
 fn kind_of(word: &[u8]) -> Name
-    ensures { λ r. ⌜ Name·paper r ≡ kindOf (now (word .entry)) ⌝ }
+    ensures { λ r. ⌜ paper r ≡ kindOf (now (word .entry)) ⌝ }
 {
     if check::same(word, b"request") {
         return Name::Of(Kind::Request);
