@@ -18,7 +18,8 @@ numbers-append : (ns ms : List ℕ) → numberLines (ns ++ ms) ≡ numberLines n
 unfolding numberLines
 numbers-append [] ms = refl
 numbers-append (n ∷ ns) ms =
-    ap (λ l. numberLine n [] ++ l) (numbers-append ns ms) ∙ sym (append-assoc (numberLine n []) (numberLines ns) (numberLines ms))
+    ap (λ l. numberLine n [] ++ l) (numbers-append ns ms)
+    ∙ sym (append-assoc (numberLine n []) (numberLines ns) (numberLines ms))
 
 pairs-append : (σ τ : List Pair) → pairLines (σ ++ τ) ≡ pairLines σ ++ pairLines τ
 unfolding pairLines

@@ -105,8 +105,8 @@ module _ {m : Machine} (closed : Closed m) {t n left : ℕ} (leaves : Leaves) {l
   makes-not o =
       ap (λ x. x && makesUp m leaves left later j) o
       ∙ sym (ap (λ x. x && eqb (requested m (pair j t) + follows) (best m (requested m) t (suc n) (allows m leaves)))
-      (⊎-elim (λ a. ap (λ x. x && instant? m j t) (a ∙ sym (begins source a)) ∙ o) (λ a. ap (λ x. x && instant? m j t) a)
-      (true-or-false (allows m leaves source))))
+      (⊎-elim (λ a. ap (λ x. x && instant? m j t) (a ∙ sym (begins source a)) ∙ o)
+      (λ a. ap (λ x. x && instant? m j t) a) (true-or-false (allows m leaves source))))
 
   pub makes-is : makesAt m t leaves left later j ≡ makes? m (requested m) t n (allows m leaves) j
   makes-is = ⊎-elim makes-now makes-not (true-or-false (may? m t j))

@@ -31,7 +31,8 @@ pub record HalfAt (b : List ℕ) (i s n j : ℕ) (progress : List Progress) : Ty
   pub stands : (k : ℕ) → j ≤ k → k ≤ i → ProgressAt (machineOf (decode b) k) s n (progressOf progress k)
 
 -- with the request bounds of the machines before j added
-pub record HalfMoved (b masks : List ℕ) (phase i n : ℕ) (old : Level) (j : ℕ) (progress : List Progress) (above : ℕ) : Type 0 where
+pub record HalfMoved (b masks : List ℕ) (phase i n : ℕ) (old : Level) (j : ℕ) (progress : List Progress)
+    (above : ℕ) : Type 0 where
   pub on : (s : ℕ) → Phase b masks phase (s + n) → LevelAt b i s n old → HalfAt b i s n j progress
   pub sum : (s : ℕ) → Phase b masks phase (s + n) → LevelAt b i s n old → above ≡ requests (decode b) j s (n + 1)
 
@@ -80,15 +81,16 @@ module _ {b masks : List ℕ} {phase i n : ℕ} {old : Level} where
       }
 
   -- when j is i, the progress above i have moved
-  pub half-last : {j : ℕ} {progress : List Progress} {above : ℕ} → HalfMoved b masks phase i n old j progress above → j ≤ i
-      → i ≤ j → HalfMoved b masks phase i n old i progress above
+  pub half-last : {j : ℕ} {progress : List Progress} {above : ℕ} → HalfMoved b masks phase i n old j progress above
+      → j ≤ i → i ≤ j → HalfMoved b masks phase i n old i progress above
   half-last h l u = rw (le-antisymm l u) at h
 
   module _ (t : BeforeTick b masks phase i n old) where
     pub before-few : i < 8
     before-few = omega (arith, t .known, few-machines (t .accepted) .1)
 
-    module _ {j : ℕ} {progress : List Progress} {above : ℕ} (h : HalfMoved b masks phase i n old j progress above) (l : j ≤ i) where
+    module _ {j : ℕ} {progress : List Progress} {above : ℕ} (h : HalfMoved b masks phase i n old j progress above)
+        (l : j ≤ i) where
       -- machine j's progress stands before the tick
       pub half-standing : Standing (machineOf (decode b) j) (getD masks (stride * j + phase) 0) (progressOf progress j)
       half-standing =
@@ -109,8 +111,10 @@ module _ {b masks : List ℕ} {phase i n : ℕ} {old : Level} where
             before-few,
           )
 
-      module _ {new : Progress} (m : Moved (machineOf (decode b) j) (getD masks (stride * j + phase) 0) (progressOf progress j) new) where
-        progress-new : (s : ℕ) → Phase b masks phase (s + n) → LevelAt b i s n old → ProgressAt (machineOf (decode b) j) s (n + 1) new
+      module _ {new : Progress}
+          (m : Moved (machineOf (decode b) j) (getD masks (stride * j + phase) 0) (progressOf progress j) new) where
+        progress-new : (s : ℕ) → Phase b masks phase (s + n) → LevelAt b i s n old
+            → ProgressAt (machineOf (decode b) j) s (n + 1) new
         progress-new s p g = m .on s n (p .at j (omega (arith, t .known))) (h .on s p g .stands j (omega arith) l)
 
         pub half-top : new .top ≤ largestRequest
@@ -131,20 +135,25 @@ module _ {b masks : List ℕ} {phase i n : ℕ} {old : Level} where
                     long = length-set progress j new ∙ at .long;
                     moved = λ k u.
                         elim (ℕ-discrete k j) [
-                          | yes e ↦ rw (e, getD-set-same progress j new blank (omega (arith, at .long, before-few))) (progress-new s p g)
+                          | yes e ↦
+                              rw (e, getD-set-same progress j new blank (omega (arith, at .long, before-few)))
+                              (progress-new s p g)
                           | no d ↦ rw (getD-set-other progress j k new blank d) (at .moved k (omega arith))
                         ];
-                    stands = λ k u v. rw (getD-set-other progress j k new blank (λ e. omega arith)) (at .stands k (omega arith) v);
+                    stands = λ k u v.
+                        rw (getD-set-other progress j k new blank (λ e. omega arith)) (at .stands k (omega arith) v);
                   };
               sum = λ s p g. rw (add-one j) (ap₂ _+_ (h .sum s p g) (progress-new s p g .top));
             }
 
     -- when machine i has moved, the tick is done; its instant, if it has one, is the last so far
-    module _ {progress : List Progress} {above : ℕ} (h : HalfMoved b masks phase i n old i progress above) {new : Progress}
+    module _ {progress : List Progress} {above : ℕ}
+        (h : HalfMoved b masks phase i n old i progress above) {new : Progress}
         (m : Moved (machineOf (decode b) i) (getD masks (stride * i + phase) 0) (progressOf progress i) new) where
-      ended : (s : ℕ) (level : Level) → Phase b masks phase (s + n) → LevelAt b i s n old → level .progress ≡ set progress i new
-          → level .above ≡ above → level .own ≡ new .top
-          → Last (machineOf (decode b) i) s (n + 1) (level .last) (level .mask) (level .row) → LevelAt b i s (n + 1) level
+      ended : (s : ℕ) (level : Level) → Phase b masks phase (s + n) → LevelAt b i s n old
+          → level .progress ≡ set progress i new → level .above ≡ above → level .own ≡ new .top
+          → Last (machineOf (decode b) i) s (n + 1) (level .last) (level .mask) (level .row)
+          → LevelAt b i s (n + 1) level
       ended s level p g el ea eo last =
           let all = half-more h (omega arith) m .on s p g in
           record {

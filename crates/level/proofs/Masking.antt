@@ -21,7 +21,8 @@ pub idle-begin : {masks : List ℕ} {t : ℕ} → Idle masks t 0
 idle-begin = record { before = λ j l. absurd (omega arith) }
 
 pub idle-more : {masks : List ℕ} {t j : ℕ} → Idle masks t j → getD masks (stride * j + t) 0 ≡ 0 → Idle masks t (j + 1)
-idle-more {masks} {t} {j} h e = record { before = below-more (λ (k : ℕ). getD masks (stride * k + t) 0 ≡ 0) j (h .before) e }
+idle-more {masks} {t} {j} h e =
+    record { before = below-more (λ (k : ℕ). getD masks (stride * k + t) 0 ≡ 0) j (h .before) e }
 
 -- the masks of the machines before j are filled
 pub record Masking (b : List ℕ) (h j : ℕ) (masks : List ℕ) : Type 0 where
@@ -48,7 +49,8 @@ module _ {b : List ℕ} {machines h : ℕ} (counted : Counted b machines h) wher
 
   -- machine j's part of the masks is filled, too
   pub masking-more : {j : ℕ} {masks : List ℕ} (part : List ℕ) → Masking b h j masks → j < machines
-      → length part ≡ length (take (stride * j + h - stride * j) (drop (stride * j) masks)) → AllMarked (machineOf (decode b) j) 0 part
+      → length part ≡ length (take (stride * j + h - stride * j) (drop (stride * j) masks))
+      → AllMarked (machineOf (decode b) j) 0 part
       → Masking b h (j + 1) (putMid (stride * j) (stride * j + h - stride * j) masks part)
   masking-more {j} {masks} part f l e m =
       record {
@@ -70,7 +72,9 @@ module _ {b : List ℕ} {machines h : ℕ} (counted : Counted b machines h) wher
       after = part ++ postOf (stride * j) (stride * j + h - stride * j) masks
 
       earlier : (i : ℕ) → i < stride * j → getD (take (stride * j) masks ++ after) i 0 ≡ getD masks i 0
-      earlier i w = List·getD-append (take (stride * j) masks) after 0 i (omega (arith, head)) ∙ getD-take (stride * j) masks i 0 w
+      earlier i w =
+          List·getD-append (take (stride * j) masks) after 0 i (omega (arith, head))
+          ∙ getD-take (stride * j) masks i 0 w
 
       own : (t : ℕ) → t < h → getD (take (stride * j) masks ++ after) (stride * j + t) 0 ≡ getD part t 0
       own t v =
@@ -80,7 +84,10 @@ module _ {b : List ℕ} {machines h : ℕ} (counted : Counted b machines h) wher
 
   pub masking-end : {j : ℕ} {masks : List ℕ} → Masking b h j masks → machines ≤ j → Masks b masks
   masking-end f l =
-      record { long = f .long; at = λ k t u v. f .at k t (omega (arith, counted .count)) (omega (arith, counted .period)) }
+      record {
+        long = f .long;
+        at = λ k t u v. f .at k t (omega (arith, counted .count)) (omega (arith, counted .period));
+      }
 
 -- the lowest machines of the ticks before t are known
 pub record Lowered (masks : List ℕ) (t : ℕ) (lowest : List ℕ) : Type 0 where
@@ -90,8 +97,8 @@ pub record Lowered (masks : List ℕ) (t : ℕ) (lowest : List ℕ) : Type 0 whe
 pub lowered-begin : {masks : List ℕ} → Lowered masks 0 (replicate stride 0)
 lowered-begin = record { long = length-replicate {A = ℕ} stride 0; at = λ u l. absurd (omega arith) }
 
-pub lowered-more : {masks : List ℕ} {t : ℕ} {lowest : List ℕ} (n : ℕ) → Lowered masks t lowest → t < stride → Idle masks t n
-    → Lowered masks (t + 1) (set lowest t n)
+pub lowered-more : {masks : List ℕ} {t : ℕ} {lowest : List ℕ} (n : ℕ) → Lowered masks t lowest → t < stride
+    → Idle masks t n → Lowered masks (t + 1) (set lowest t n)
 lowered-more {masks} {t} {lowest} n h l i =
     record {
       long = length-set lowest t n ∙ h .long;

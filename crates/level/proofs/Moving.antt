@@ -17,8 +17,9 @@ module _ {m : Machine} (sizes : MachineSizes m) where
   pub standing-ready : {mask : ℕ} {progress : Progress} → Standing m mask progress → Ready m mask (progress .row)
   standing-ready h = row-ready sizes (h .stands .row) (omega arith) (h .marks)
 
-  pub moved-tick : {mask states : ℕ} {progress : Progress} {new : List ℕ} (top : ℕ) → Ticked On m mask (progress .row) new
-      → states ≡ m .states → top ≡ most states (figure new) → Moved m mask progress (record { row = new; top = top })
+  pub moved-tick : {mask states : ℕ} {progress : Progress} {new : List ℕ} (top : ℕ)
+      → Ticked On m mask (progress .row) new → states ≡ m .states → top ≡ most states (figure new)
+      → Moved m mask progress (record { row = new; top = top })
   moved-tick {new = new} top ticked e f =
       record {
         on = λ s n marks h.

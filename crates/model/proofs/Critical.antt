@@ -142,8 +142,8 @@ module _ (m : Machine) (ok : Pair → Type 0) (w : Pair → ℕ) where
               first = starting q;
             }
           where
-            starting : w (pair i t) + rest (after m i) ≡ best m w t (suc n) from → (τ : List Pair) → Onward m ok from t τ
-                → total w τ ≡ best m w t (suc n) from → NotAfter (pair i t ∷ next (after m i)) τ
+            starting : w (pair i t) + rest (after m i) ≡ best m w t (suc n) from → (τ : List Pair)
+                → Onward m ok from t τ → total w τ ≡ best m w t (suc n) from → NotAfter (pair i t ∷ next (after m i)) τ
             starting q [] r e = absurd (omega (arith, positive (pair i t) l))
             starting q (p ∷ τ) (j, o, d, k, r) e =
                 ⊎-elim

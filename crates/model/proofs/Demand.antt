@@ -57,8 +57,8 @@ module _ (m : Machine) (w : Pair → ℕ) (c : Closed m) (s : ℕ) where
       omega (
         arith,
         most-above (m .states) (ends m w s n) q l,
-        most-below (count m) (brings On m w (s + n) (ends m w s n) q) (most (count m) (pushes m w (s + n) (ends m w s n)))
-            (λ k b.
+        most-below (count m) (brings On m w (s + n) (ends m w s n) q)
+            (most (count m) (pushes m w (s + n) (ends m w s n))) (λ k b.
             ⊎-elim (λ z. omega arith)
             (λ (o, j, g). omega (arith, rw o at (most-above (count m) (pushes m w (s + n) (ends m w s n)) k b)))
             (brings-cases On m w (s + n) (ends m w s n) q k)),
@@ -107,7 +107,8 @@ late-idle true false v u top h = omega (arith, h refl)
 late-idle false due v u top h = refl
 
 pushes-due : (m : Machine) → Closed m → (t end : ℕ) (row : ℕ → ℕ) (k : ℕ)
-    → max (most (m .states) row) (pushes m (demanded m end) t row k) ≡ max (most (m .states) row) (dueThen m t end row k)
+    → max (most (m .states) row) (pushes m (demanded m end) t row k)
+    ≡ max (most (m .states) row) (dueThen m t end row k)
 pushes-due m c t end row k =
     let q = actionOf m k .source in
     late-idle (may? m t k) (leb (t + actionOf m k .deadline) end) (row q) (requested m (pair k t)) _

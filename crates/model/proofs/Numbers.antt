@@ -1,5 +1,5 @@
--- P1 to P12: one test of the whole table, which the prover computes, and one law that the test tells the truth. And what
--- keeping only the least gap between events would miss: no window of 41 ticks asks for more than 13.
+-- P1 to P12: one test of the whole table, which the prover computes, and one law that the test tells the truth. And
+-- what keeping only the least gap between events would miss: no window of 41 ticks asks for more than 13.
 use Prim.Native.Nat.{ℕ, zero, suc, _+_, _-_, _%_, _≤_, _<_}
 use mathlib.Core.Path.{_≡_, refl, sym, _∙_, ap}
 use mathlib.Core.Bool.{Bool, true, _&&_}

@@ -58,7 +58,8 @@ module _ (ms : List Machine) (i s : ℕ) where
   closing-after n l = elim (none-or-some (closingFrom (suc n))) [
     | inl z ↦ rw z l
     | inr x ↦
-        let h : n ≤ pred (x .0) = omega (arith, smallest-some (suc n) longestWindow (closes ms i s) (x .0) (x .1) .least) in
+        let h : n ≤ pred (x .0) =
+        omega (arith, smallest-some (suc n) longestWindow (closes ms i s) (x .0) (x .1) .least) in
         rw (x .1) h
   ]
 

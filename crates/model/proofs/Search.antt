@@ -61,7 +61,8 @@ module _ {A : Type 0} (answer : ℕ → Option A) where
     | inr x ↦ let (k, l, u, f, b) = firstOf-some low n (x .0) (x .1) in absurd (some-none (sym f ∙ h k l u))
   ]
 
-pub first-none : {A : Type 0} (answer : ℕ → Option A) (n : ℕ) → firstOf answer 0 n ≡ none → (k : ℕ) → k < n → answer k ≡ none
+pub first-none : {A : Type 0} (answer : ℕ → Option A) (n : ℕ) → firstOf answer 0 n ≡ none
+    → (k : ℕ) → k < n → answer k ≡ none
 first-none answer n e k l = firstOf-none answer 0 n e k (omega arith) (omega arith)
 
 -- a loop over 0, 1 and so on that has come to k: none of the numbers before k has an answer

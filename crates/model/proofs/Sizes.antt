@@ -30,7 +30,8 @@ module _ (ms : List Machine) (sizes : Sizes ms) where
   unfolding hyperperiod
   hyperperiod-positive = lcms-positive 1 (allPeriods ms) (omega arith) all-positive
 
-  pub period-divides-hyperperiod : (i k : ℕ) → k < count (machineOf ms i) → actionOf (machineOf ms i) k .period ∣ hyperperiod ms
+  pub period-divides-hyperperiod : (i k : ℕ) → k < count (machineOf ms i)
+      → actionOf (machineOf ms i) k .period ∣ hyperperiod ms
   unfolding hyperperiod
   period-divides-hyperperiod i =
       all-periods-each (λ p. p ∣ hyperperiod ms) ms .0 (lcmOf-is (allPeriods ms) all-positive .multiple) i

@@ -16,7 +16,8 @@ use Rattle.model.specs.Machine.{allPeriods, hyperperiod}
 periods-count : (m : Machine) → length (periods m) ≡ count m
 periods-count m = length-map (m .actions) (λ a. a .period)
 
-period-at : (l : List Action) (j : ℕ) (d : Action) → j < length l → getD (map (λ a. a .period) l) j 0 ≡ getD l j d .period
+period-at : (l : List Action) (j : ℕ) (d : Action) → j < length l
+    → getD (map (λ a. a .period) l) j 0 ≡ getD l j d .period
 period-at [] j d l = absurd (not-suc-le-zero l)
 period-at (a ∷ rest) zero d l = refl
 period-at (a ∷ rest) (suc j) d l = period-at rest j d (le-of-suc-le-suc l)
@@ -29,7 +30,8 @@ module _ {f : ℕ → ℕ → ℕ} {m : Machine} where
   pub taking-begin : (x : ℕ) → Taking f m x 0 (fold f x (periods m))
   taking-begin x = record { left = refl }
 
-  pub taking-more : {x j v : ℕ} (y : ℕ) → Taking f m x j v → j < count m → y ≡ f x (actionOf m j .period) → Taking f m y (j + 1) v
+  pub taking-more : {x j v : ℕ} (y : ℕ) → Taking f m x j v → j < count m → y ≡ f x (actionOf m j .period)
+      → Taking f m y (j + 1) v
   unfolding fold
   taking-more {x} {j} {v} y h l e =
       let next : drop j (periods m) ≡ actionOf m j .period ∷ drop (suc j) (periods m) =
@@ -57,7 +59,8 @@ pub record Gathering (ms : List Machine) (h k v : ℕ) : Type 0 where
   pub left : fold lcm h (allPeriods (drop k ms)) ≡ v
 
 machine-next : (ms : List Machine) (h k : ℕ) → k < length ms
-    → fold lcm h (allPeriods (drop k ms)) ≡ fold lcm (fold lcm h (periods (machineOf ms k))) (allPeriods (drop (suc k) ms))
+    → fold lcm h (allPeriods (drop k ms))
+    ≡ fold lcm (fold lcm h (periods (machineOf ms k))) (allPeriods (drop (suc k) ms))
 unfolding allPeriods
 machine-next ms h k l =
     ap (λ rest. fold lcm h (allPeriods rest)) (drop-cons ms k _ l)
@@ -74,8 +77,8 @@ module _ {ms : List Machine} where
   unfolding hyperperiod
   gathering-begin = record { left = refl }
 
-  pub gathering-more : {h k v : ℕ} (g : ℕ) → Gathering ms h k v → k < length ms → g ≡ fold lcm h (periods (machineOf ms k))
-      → Gathering ms g (k + 1) v
+  pub gathering-more : {h k v : ℕ} (g : ℕ) → Gathering ms h k v → k < length ms
+      → g ≡ fold lcm h (periods (machineOf ms k)) → Gathering ms g (k + 1) v
   gathering-more {h} {k} g w l e = record { left = rw (add-one, e) (sym (machine-next ms h k l) ∙ w .left) }
 
   pub gathering-end : {h k v : ℕ} → Gathering ms h k v → length ms ≤ k → h ≡ v

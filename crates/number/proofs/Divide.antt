@@ -1,4 +1,5 @@
--- The greatest common divisor and the least common multiple are what their names say: of two numbers first, then of a list.
+-- The greatest common divisor and the least common multiple are what their names say: of two numbers first, then
+-- of a list.
 use Prim.Native.Nat.{ℕ, zero, suc, _-_, _*_, _/_, _%_, _≤_, _<_, _∣_}
 use mathlib.Core.Path.{_≡_, refl, sym, _∙_, ap, subst}
 use mathlib.Core.List.{List, [], _∷_, _++_}
@@ -169,7 +170,8 @@ lcms-multiple h (a ∷ l) p (q, ps) =
       lcms-multiple (lcm h a) l r ps,
     )
 
-lcms-least : (h : ℕ) (l : List ℕ) → 0 < h → Each (λ a. 0 < a) l → (m : ℕ) → h ∣ m → Each (λ a. a ∣ m) l → fold lcm h l ∣ m
+lcms-least : (h : ℕ) (l : List ℕ) → 0 < h → Each (λ a. 0 < a) l
+    → (m : ℕ) → h ∣ m → Each (λ a. a ∣ m) l → fold lcm h l ∣ m
 unfolding fold
 lcms-least h [] p ps m k ks = k
 lcms-least h (a ∷ l) p (q, ps) m k (j, ks) =

@@ -81,7 +81,8 @@ module _ (b : List ℕ) where
       ends : trailerOffset b ≡ actionSize * actionsBefore b (machineCount b)
       ends =
           eqb-true (trailerOffset b) (actionSize * actionsBefore b (machineCount b))
-          (unless-none _ (refusal 6 (machineCount b) 0) (orElse-none (firstOf (offsetRefusal b) 0 (machineCount b)) (endRefusal b (machineCount b)) six .1))
+          (unless-none _ (refusal 6 (machineCount b) 0)
+          (orElse-none (firstOf (offsetRefusal b) 0 (machineCount b)) (endRefusal b (machineCount b)) six .1))
 
       offset : (k : ℕ) → k < machineCount b → entry b k .offset ≡ actionSize * actionsBefore b k
       offset k known =
@@ -96,7 +97,8 @@ module _ (b : List ℕ) where
   all-keep test n e k j known l =
       let m = machineOf (decode b) k in
       unless-none _ _
-      (first-none (actionRefusal test n m k) (count m) (first-none (machineRefusal test n b) (machineCount b) e k known) j l)
+      (first-none (actionRefusal test n m k) (count m)
+      (first-none (machineRefusal test n b) (machineCount b) e k known) j l)
 
   record ActionInRange (m : Machine) (a : Action) : Type 0 where
     source : a .source < m .states
@@ -123,7 +125,9 @@ module _ (b : List ℕ) where
   periods-so h seven =
       record {
         offsets = h;
-        period = λ k j known l. in-range (machineOf (decode b) k) (actionOf (machineOf (decode b) k) j) (all-keep actionInRange 7 seven k j known l) .period;
+        period = λ k j known l.
+            in-range (machineOf (decode b) k) (actionOf (machineOf (decode b) k) j)
+            (all-keep actionInRange 7 seven k j known l) .period;
       }
 
   pub accepted : PeriodsKept b → rule7 b ≡ none → rule8 b ≡ none → rule9 b ≡ none → Accepted b
@@ -137,7 +141,9 @@ module _ (b : List ℕ) where
       action : (k j : ℕ) → k < machineCount b → j < count (machineOf (decode b) k)
           → ActionSizes (machineOf (decode b) k) (actionOf (machineOf (decode b) k) j)
       action k j known l =
-          let r = in-range (machineOf (decode b) k) (actionOf (machineOf (decode b) k) j) (all-keep actionInRange 7 seven k j known l) in
+          let r =
+          in-range (machineOf (decode b) k) (actionOf (machineOf (decode b) k) j)
+          (all-keep actionInRange 7 seven k j known l) in
           record {
             source = r .source;
             sink = r .sink;

@@ -1,4 +1,5 @@
--- The reply of `check`: what it is where the rules are kept or broken, what acceptance gives, and that no second result satisfies the contract.
+-- The reply of `check`: what it is where the rules are kept or broken, what acceptance gives, and that no
+-- second result satisfies the contract.
 use Prim.Native.Nat.{ℕ, _≤_, _<_}
 use mathlib.Core.Path.{_≡_, refl, sym, _∙_, ap}
 use mathlib.Core.List.{List, [], _∷_}
@@ -59,23 +60,28 @@ module _ (b : List ℕ) where
       ∙ orElse-assoc (rule1 b) (rule2 b orElse rule3 b orElse rule4 b) (from5 orElse rule9 b)
       ∙ ap (λ x. rule1 b orElse x) (orElse-assoc (rule2 b) (rule3 b orElse rule4 b) (from5 orElse rule9 b)
       ∙ ap (λ x. rule2 b orElse x) (orElse-assoc (rule3 b) (rule4 b) (from5 orElse rule9 b)
-      ∙ ap (λ x. rule3 b orElse (rule4 b orElse x)) (orElse-assoc (rule5 b) (rule6 b orElse rule7 b orElse rule8 b) (rule9 b)
+      ∙ ap (λ x. rule3 b orElse (rule4 b orElse x))
+      (orElse-assoc (rule5 b) (rule6 b orElse rule7 b orElse rule8 b) (rule9 b)
       ∙ ap (λ x. rule5 b orElse x) (orElse-assoc (rule6 b) (rule7 b orElse rule8 b) (rule9 b)
       ∙ ap (λ x. rule6 b orElse x) (orElse-assoc (rule7 b) (rule8 b) (rule9 b)))))))
 
-  reply-by : (x : Option Refusal) → refusalOf b ≡ x → checkReply b ≡ x otherwise answer 0 (machineCount b ∷ hyperperiod (decode b) ∷ [])
+  reply-by : (x : Option Refusal) → refusalOf b ≡ x
+      → checkReply b ≡ x otherwise answer 0 (machineCount b ∷ hyperperiod (decode b) ∷ [])
   reply-by x e = ap (λ y. y otherwise answer 0 (machineCount b ∷ hyperperiod (decode b) ∷ [])) e
 
   pub check-broken : {r : Refusal} → firstRules b ≡ some r → checkReply b ≡ refused r
   check-broken e = reply-by _ (refusal-last ∙ orElse-refused (rule9 b) e)
 
-  pub check-nine : firstRules b ≡ none → longestHyperperiod < hyperperiod (decode b) → checkReply b ≡ refused (refusal 9 0 0)
+  pub check-nine : firstRules b ≡ none → longestHyperperiod < hyperperiod (decode b)
+      → checkReply b ≡ refused (refusal 9 0 0)
   check-nine e l =
-      reply-by _ (refusal-last ∙ orElse-clear (rule9 b) e ∙ ap (λ t. unless t (refusal 9 0 0)) (lt-leb (hyperperiod (decode b)) longestHyperperiod l))
+      reply-by _ (refusal-last ∙ orElse-clear (rule9 b) e
+      ∙ ap (λ t. unless t (refusal 9 0 0)) (lt-leb (hyperperiod (decode b)) longestHyperperiod l))
 
   none-refused : firstRules b ≡ none → hyperperiod (decode b) ≤ longestHyperperiod → refusalOf b ≡ none
   none-refused e l =
-      refusal-last ∙ orElse-clear (rule9 b) e ∙ ap (λ t. unless t (refusal 9 0 0)) (le-leb (hyperperiod (decode b)) longestHyperperiod l)
+      refusal-last ∙ orElse-clear (rule9 b) e
+      ∙ ap (λ t. unless t (refusal 9 0 0)) (le-leb (hyperperiod (decode b)) longestHyperperiod l)
 
   pub check-accepts : firstRules b ≡ none → hyperperiod (decode b) ≤ longestHyperperiod
       → checkReply b ≡ answer 0 (machineCount b ∷ hyperperiod (decode b) ∷ [])

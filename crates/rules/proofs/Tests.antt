@@ -63,10 +63,12 @@ module _ (b : List ℕ) (k : ℕ) (known : k < machineCount b) where
       let fs : s ≡ entry b k .states = es ∙ ap (λ (m : Machine). m .states) (decode-machine b k known) in
       let fi : i ≡ entry b k .initial = ei ∙ ap (λ (m : Machine). m .initial) (decode-machine b k known) in
       let fa : a ≡ entry b k .actions = ea ∙ decode-actions b k known in
-      ap₂ _&&_ (ap₂ _&&_ (ap₂ _&&_ (ep ∙ ap (between 1 16) fs) (ap₂ ltb fi fs)) (eq ∙ ap (between 1 32) fa)) (ap (λ (x : ℕ). eqb x 0) ez)
+      ap₂ _&&_ (ap₂ _&&_ (ap₂ _&&_ (ep ∙ ap (between 1 16) fs) (ap₂ ltb fi fs)) (eq ∙ ap (between 1 32) fa))
+      (ap (λ (x : ℕ). eqb x 0) ez)
 
   -- where the actions of the next machine begin
-  pub begin-next : (begin a : ℕ) → begin ≡ actionSize * actionsBefore b k → a ≡ count (machineOf (decode b) k) → begin + actionSize * a ≡ actionSize * actionsBefore b (k + 1)
+  pub begin-next : (begin a : ℕ) → begin ≡ actionSize * actionsBefore b k → a ≡ count (machineOf (decode b) k)
+      → begin + actionSize * a ≡ actionSize * actionsBefore b (k + 1)
   unfolding actionsBefore
   begin-next begin a e f = rw add-one (omega (arith, decode-actions b k known))
 

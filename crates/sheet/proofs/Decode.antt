@@ -14,18 +14,21 @@ unfolding actionsAt
 actions-count b at zero = refl
 actions-count b at (suc n) = ap suc (actions-count b (at + actionSize) n)
 
-action-at : (b : List ℕ) (at n j : ℕ) (d : Action) → j < n → getD (actionsAt b at n) j d ≡ actionAt b (at + actionSize * j)
+action-at : (b : List ℕ) (at n j : ℕ) (d : Action) → j < n
+    → getD (actionsAt b at n) j d ≡ actionAt b (at + actionSize * j)
 unfolding actionsAt
 action-at b at zero j d l = absurd (not-suc-le-zero l)
 action-at b at (suc n) zero d l = ap (actionAt b) (omega arith)
-action-at b at (suc n) (suc j) d l = action-at b (at + actionSize) n j d (le-of-suc-le-suc l) ∙ ap (actionAt b) (omega arith)
+action-at b at (suc n) (suc j) d l =
+    action-at b (at + actionSize) n j d (le-of-suc-le-suc l) ∙ ap (actionAt b) (omega arith)
 
 machines-count : (b : List ℕ) (k n : ℕ) → length (machinesFrom b k n) ≡ n
 unfolding machinesFrom
 machines-count b k zero = refl
 machines-count b k (suc n) = ap suc (machines-count b (suc k) n)
 
-machine-from : (b : List ℕ) (k n i : ℕ) (d : Machine) → i < n → getD (machinesFrom b k n) i d ≡ described b (entry b (k + i))
+machine-from : (b : List ℕ) (k n i : ℕ) (d : Machine) → i < n
+    → getD (machinesFrom b k n) i d ≡ described b (entry b (k + i))
 unfolding machinesFrom
 machine-from b k zero i d l = absurd (not-suc-le-zero l)
 machine-from b k (suc n) zero d l = ap (λ i. described b (entry b i)) (omega arith)

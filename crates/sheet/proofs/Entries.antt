@@ -39,7 +39,8 @@ module _ {b : List ℕ} {e : Entry} (h : IsEntry b e) where
   has-action l = record { has = h .has; below = l }
 
 -- the periods of a machine, and of all machines, are positive
-pub machine-positive : {b : List ℕ} (k : ℕ) → PeriodsKept b → k < machineCount b → Each (λ p. 0 < p) (periods (machineOf (decode b) k))
+pub machine-positive : {b : List ℕ} (k : ℕ) → PeriodsKept b → k < machineCount b
+    → Each (λ p. 0 < p) (periods (machineOf (decode b) k))
 machine-positive {b} k h known = periods-each (λ p. 0 < p) (machineOf (decode b) k) .1 (λ j l. h .period k j known l .0)
 
 pub all-positive : {b : List ℕ} → PeriodsKept b → Each (λ p. 0 < p) (allPeriods (decode b))

@@ -33,7 +33,8 @@ pub decimal-more : (n : ℕ) → 10 ≤ n → decimal n ≡ decimal (n / 10) ++ 
 unfolding decimal digits
 decimal-more n l =
     rw (le-ltb n 10 l)
-    (ap (λ d. d ++ ((48 + n % 10) ∷ [])) (digits-enough n (suc (n / 10)) (n / 10) (div-lt-self (omega arith) (omega arith)) (omega arith)))
+    (ap (λ d. d ++ ((48 + n % 10) ∷ []))
+    (digits-enough n (suc (n / 10)) (n / 10) (div-lt-self (omega arith) (omega arith)) (omega arith)))
 
 pub decimal-length : (n : ℕ) → 10 ≤ n → length (decimal n) ≡ length (decimal (n / 10)) + 1
 decimal-length n l = ap length (decimal-more n l) ∙ length-append (decimal (n / 10)) ((48 + n % 10) ∷ [])
@@ -46,15 +47,18 @@ module _ {before after : List ℕ} {at r : ℕ} {text : List ℕ} (p : Put befor
   put-head : take r after ≡ take at before ++ text
   put-head =
       ap (take r) (p .says ∙ sym (append-assoc (take at before) text (drop r before)))
-      ∙ take-at (take at before ++ text) (drop r before) r (omega (arith, length-append (take at before) text, front, p .next))
+      ∙ take-at (take at before ++ text) (drop r before) r
+      (omega (arith, length-append (take at before) text, front, p .next))
 
   put-tail : drop r after ≡ drop r before
   put-tail =
       ap (drop r) (p .says ∙ sym (append-assoc (take at before) text (drop r before)))
-      ∙ drop-at (take at before ++ text) (drop r before) r (omega (arith, length-append (take at before) text, front, p .next))
+      ∙ drop-at (take at before ++ text) (drop r before) r
+      (omega (arith, length-append (take at before) text, front, p .next))
 
 -- a piece and the piece after it
-pub put-then : {b0 b1 b2 : List ℕ} {at r1 r2 : ℕ} {x y : List ℕ} → Put b0 at x r1 b1 → Put b1 r1 y r2 b2 → Put b0 at (x ++ y) r2 b2
+pub put-then : {b0 b1 b2 : List ℕ} {at r1 r2 : ℕ} {x y : List ℕ} → Put b0 at x r1 b1 → Put b1 r1 y r2 b2
+    → Put b0 at (x ++ y) r2 b2
 put-then {b0} {b1} {b2} {at} {r1} {r2} {x} {y} p q =
     record {
       next = omega (arith, p .next, q .next, length-append x y);
@@ -88,13 +92,14 @@ put-one b at x l =
 pub put-begin : (b : List ℕ) (at : ℕ) → at ≤ length b → Put b at [] (at + 0) b
 put-begin b at l = rw add-zero (put-nothing b at l)
 
-pub put-more : {b c : List ℕ} {at i : ℕ} (text : List ℕ) → Put b at (take i text) (at + i) c → i < length text → at + i < length c
-    → Put b at (take (i + 1) text) (at + (i + 1)) (set c (at + i) (getD text i 0))
+pub put-more : {b c : List ℕ} {at i : ℕ} (text : List ℕ) → Put b at (take i text) (at + i) c → i < length text
+    → at + i < length c → Put b at (take (i + 1) text) (at + (i + 1)) (set c (at + i) (getD text i 0))
 put-more {b} {c} {at} {i} text p l h =
     rw (add-one, take-suc text i 0 l, let z : at + suc i ≡ at + i + 1 = omega arith in z)
     (put-then p (put-one c (at + i) (getD text i 0) h))
 
-pub put-end : {b c : List ℕ} {at i : ℕ} (text : List ℕ) → Put b at (take i text) (at + i) c → length text ≤ i → Put b at text (at + i) c
+pub put-end : {b c : List ℕ} {at i : ℕ} (text : List ℕ) → Put b at (take i text) (at + i) c → length text ≤ i
+    → Put b at text (at + i) c
 put-end {b} {c} {at} {i} text p l = rw (take-all i text l) at p
 
 -- a number below 10 to the power k + 1 has at most k + 1 digits
@@ -116,19 +121,22 @@ spaced-append : (ns ms : List ℕ) → spaced (ns ++ ms) ≡ spaced ns ++ spaced
 unfolding spaced
 spaced-append [] ms = refl
 spaced-append (n ∷ ns) ms =
-    ap (λ l. 32 ∷ decimal n ++ l) (spaced-append ns ms) ∙ ap (λ l. 32 ∷ l) (sym (append-assoc (decimal n) (spaced ns) (spaced ms)))
+    ap (λ l. 32 ∷ decimal n ++ l) (spaced-append ns ms)
+    ∙ ap (λ l. 32 ∷ l) (sym (append-assoc (decimal n) (spaced ns) (spaced ms)))
 
 -- a loop that has put the first i numbers
 pub spaced-begin : (b : List ℕ) (at : ℕ) → at ≤ length b → Put b at (spaced []) at b
 unfolding spaced
 spaced-begin b at l = put-nothing b at l
 
-pub spaced-more : {b c c1 c2 : List ℕ} {at i r r1 r2 : ℕ} (ns : List ℕ) → Put b at (spaced (take i ns)) r c → Put c r (32 ∷ []) r1 c1
-    → Put c1 r1 (decimal (getD ns i 0)) r2 c2 → i < length ns → Put b at (spaced (take (i + 1) ns)) r2 c2
+pub spaced-more : {b c c1 c2 : List ℕ} {at i r r1 r2 : ℕ} (ns : List ℕ) → Put b at (spaced (take i ns)) r c
+    → Put c r (32 ∷ []) r1 c1 → Put c1 r1 (decimal (getD ns i 0)) r2 c2 → i < length ns
+    → Put b at (spaced (take (i + 1) ns)) r2 c2
 unfolding spaced
 spaced-more {at = at} {i = i} ns p q s l =
     rw (add-one, take-suc ns i 0 l, spaced-append (take i ns) (getD ns i 0 ∷ []), append-nil (decimal (getD ns i 0)))
     (put-then p (put-then q s))
 
-pub spaced-end : {b c : List ℕ} {at i r : ℕ} (ns : List ℕ) → Put b at (spaced (take i ns)) r c → length ns ≤ i → Put b at (spaced ns) r c
+pub spaced-end : {b c : List ℕ} {at i r : ℕ} (ns : List ℕ) → Put b at (spaced (take i ns)) r c → length ns ≤ i
+    → Put b at (spaced ns) r c
 spaced-end {i = i} ns p l = rw (take-all i ns l) at p

@@ -31,7 +31,8 @@ module _ {word : List ℕ} {v i : ℕ} (h : Reading word v i) where
   next c = 10 * v + (c - 48)
 
   step : (c : ℕ) → i < length word → c ≡ getD word i 0
-      → cond (leb 48 c && leb c 57 && leb (next c) 4294967295) (readFrom (next c) (drop (suc i) word)) none ≡ readNumber word
+      → cond (leb 48 c && leb c 57 && leb (next c) 4294967295) (readFrom (next c) (drop (suc i) word)) none
+      ≡ readNumber word
   unfolding readFrom next
   step c l e = rw e (rw (drop-cons word i 0 l) at (h .left))
 
@@ -39,7 +40,9 @@ module _ {word : List ℕ} {v i : ℕ} (h : Reading word v i) where
       → Reading word (10 * v + (c - 48)) (i + 1)
   unfolding next
   reading-more c l e a b m =
-      record { left = rw add-one (rw (le-leb 48 c a, le-leb c 57 b, le-leb (10 * v + (c - 48)) 4294967295 m) at (step c l e)) }
+      record {
+        left = rw add-one (rw (le-leb 48 c a, le-leb c 57 b, le-leb (10 * v + (c - 48)) 4294967295 m) at (step c l e));
+      }
 
   pub reading-low : (c : ℕ) → i < length word → c ≡ getD word i 0 → c < 48 → none ≡ readNumber word
   reading-low c l e a = rw (lt-leb 48 c a) at (step c l e)

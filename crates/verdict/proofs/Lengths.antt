@@ -37,7 +37,8 @@ pub record Walked (b : List ℕ) (i s h n : ℕ) (level : Level) (room phase : �
   pub placed : phase ≡ (s + n) % h
   pub left : scan (decode b) i s (suc n) (longestWindow - n) ≡ gives (decode b) i s
 
-module _ {b masks lowest : List ℕ} {h : ℕ} (marked : MaskedSheet b masks lowest h) {i : ℕ} (known : i < machineCount b) where
+module _ {b masks lowest : List ℕ} {h : ℕ} (marked : MaskedSheet b masks lowest h) {i : ℕ}
+    (known : i < machineCount b) where
   sizes : MachineSizes (machineOf (decode b) i)
   sizes = machine-sizes (marked .accepted) i known
 
@@ -140,7 +141,8 @@ module _ {b masks lowest : List ℕ} {h : ℕ} (marked : MaskedSheet b masks low
               moved-not (machine-sizes (marked .accepted) j (omega (arith, known))) (quiet j u) .on s n
               (here .at j (omega (arith, known))) (w .stands .progress .at j u)
 
-          request-idle : (j : ℕ) → j ≤ i → request (machineOf (decode b) j) s n ≡ request (machineOf (decode b) j) s (n + 1)
+          request-idle : (j : ℕ) → j ≤ i
+              → request (machineOf (decode b) j) s n ≡ request (machineOf (decode b) j) s (n + 1)
           request-idle j u = sym (w .stands .progress .at j u .top) ∙ progress j u .top
 
           requests-idle : (j : ℕ) → j ≤ i → requests (decode b) j s n ≡ requests (decode b) j s (n + 1)
@@ -174,7 +176,8 @@ module _ {b masks lowest : List ℕ} {h : ℕ} (marked : MaskedSheet b masks low
 
       pub length-closes : level .above + level .own ≤ n + 1 → none ≡ gives (decode b) i s
       length-closes l =
-          sym (scan-closed (decode b) i s (suc n) (longestWindow - suc n) (closes-at-most (decode b) i s (suc n) .1 (omega (arith, both))))
+          sym (scan-closed (decode b) i s (suc n) (longestWindow - suc n)
+          (closes-at-most (decode b) i s (suc n) .1 (omega (arith, both))))
           ∙ here
 
       module _ (over : n + 1 < level .above + level .own) where
@@ -189,17 +192,21 @@ module _ {b masks lowest : List ℕ} {h : ℕ} (marked : MaskedSheet b masks low
             let m : slack (decode b) i s (suc n) < demand (machineOf (decode b) i) s (suc n) = rw (add-one n, f) at l in
             rw (add-one n)
             (ap (λ x. some (Late i s (suc n) x)) f
-            ∙ sym (scan-late (decode b) i s (suc n) (longestWindow - suc n) not-closed (passes-slack (decode b) i s (suc n) ∙ lt-leb _ _ m))
+            ∙ sym (scan-late (decode b) i s (suc n) (longestWindow - suc n) not-closed
+            (passes-slack (decode b) i s (suc n) ∙ lt-leb _ _ m))
             ∙ here)
 
         passed : demand (machineOf (decode b) i) s (suc n) ≤ slack (decode b) i s (suc n)
             → scan (decode b) i s (suc (suc n)) (longestWindow - suc n) ≡ gives (decode b) i s
         passed l =
-            sym (scan-next (decode b) i s (suc n) (longestWindow - suc n) not-closed (passes-slack (decode b) i s (suc n) ∙ le-leb _ _ l)) ∙ here
+            sym (scan-next (decode b) i s (suc n) (longestWindow - suc n) not-closed
+            (passes-slack (decode b) i s (suc n) ∙ le-leb _ _ l))
+            ∙ here
 
         -- the largest room with that of this length, and the phase of the next tick
-        module _ {before room phase after : ℕ} (roomy : before ≡ slack (decode b) i s n) (more : room ≡ max before (n + 1 - level .above))
-            (placed : phase ≡ (s + n) % h) (next : after ≡ (phase + 1) % h) where
+        module _ {before room phase after : ℕ} (roomy : before ≡ slack (decode b) i s n)
+            (more : room ≡ max before (n + 1 - level .above)) (placed : phase ≡ (s + n) % h)
+            (next : after ≡ (phase + 1) % h) where
           room-next : room ≡ slack (decode b) i s (suc n)
           unfolding slack
           room-next = rw (add-one n) at more ∙ ap₂ (λ x y. max x (suc n - y)) roomy (at .above)
@@ -231,7 +238,7 @@ module _ {b masks lowest : List ℕ} {h : ℕ} (marked : MaskedSheet b masks low
               ))
 
     -- no length is left
-    pub walked-open : {n : ℕ} {level : Level} {room phase : ℕ} → Walked b i s h n level room phase → longestWindow ≤ n → n ≤ longestWindow
-        → some (Open i s) ≡ gives (decode b) i s
+    pub walked-open : {n : ℕ} {level : Level} {room phase : ℕ} → Walked b i s h n level room phase
+        → longestWindow ≤ n → n ≤ longestWindow → some (Open i s) ≡ gives (decode b) i s
     walked-open {n} w a c =
         sym (scan-open (decode b) i s (suc n)) ∙ rw (let z : longestWindow - n ≡ 0 = omega arith in z) at (w .left)

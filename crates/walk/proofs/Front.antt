@@ -49,7 +49,8 @@ module _ {m : Machine} (sizes : MachineSizes m) {s n : ℕ} {row : List ℕ} (h 
 
 -- the last instant, as a loop over the ticks keeps it
 module _ {m : Machine} {s : ℕ} where
-  pub last-begin : {mask : ℕ} {row : List ℕ} → Marks m (s + 0) mask → IsRow m (requested m) s 0 row → Last m s 0 0 mask row
+  pub last-begin : {mask : ℕ} {row : List ℕ} → Marks m (s + 0) mask → IsRow m (requested m) s 0 row
+      → Last m s 0 0 mask row
   last-begin g h = record { last = last-start m s; marks = g; figures = h }
 
   pub last-instant : {n mask : ℕ} {row : List ℕ} → Marks m (s + n) mask → (mask ≡ 0 → ⊥) → IsRow m (requested m) s n row

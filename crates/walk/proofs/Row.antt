@@ -136,7 +136,8 @@ module _ {way : Way} {m : Machine} {mask : ℕ} {old : List ℕ} where
     pub ticking-end : unseen ≡ 0 → Ticked way m mask old row
     ticking-end e =
         record {
-          moved = λ t g. record { at = λ q l. most-end (h .at q l) (h .others) e (brings-idle way m (figure old) q) t g };
+          moved = λ t g.
+              record { at = λ q l. most-end (h .at q l) (h .others) e (brings-idle way m (figure old) q) t g };
           long = h .long;
         }
 

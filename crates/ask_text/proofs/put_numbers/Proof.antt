@@ -9,7 +9,8 @@ use Rattle.ask_text.proofs.put_numbers.Statement.{statement}
 use Rattle.ask_text.proofs.put_numbers.Tie as tie
 
 abbrev Inv-loop : tie.InvT-loop
-Inv-loop out₀ numbers next₀ k₀ t5 out next k = (k ≤ length numbers) × (next ≤ 11 * k) × Put out₀ 0 (numberLines (take k numbers)) next out
+Inv-loop out₀ numbers next₀ k₀ t5 out next k =
+    (k ≤ length numbers) × (next ≤ 11 * k) × Put out₀ 0 (numberLines (take k numbers)) next out
 
 abbrev μ-loop : tie.MeasureT-loop
 μ-loop out₀ numbers next₀ k₀ t5 out next k = length numbers - k
@@ -29,7 +30,8 @@ slice-aggregate-put-number-line c = search needs
 put-number-line-requires : tie.Need-put-number-line-requires Inv-loop μ-loop
 put-number-line-requires c κs =
     let loop = c .before .before .before .before in
-    omega (arith, loop .before .before .before .pre, loop .loop .inv .1, loop .loop .inv .2 .size, c .before .before .before .loop-test .taken)
+    let inv = loop .loop .inv in
+    omega (arith, loop .before .before .before .pre, inv .1, inv .2 .size, c .before .before .before .loop-test .taken)
 
 add-k : tie.Need-add-k Inv-loop μ-loop
 add-k c = omega arith
@@ -43,7 +45,8 @@ loop-again c =
     let loop = put .before .before .before .before .before in (
       omega arith,
       omega (arith, loop .loop .inv .1, put .put-number-line .ensures .1),
-      numbers-more (loop .before .before .before .args .numbers .now) (loop .loop .inv .2) (put .put-number-line .ensures .0) (omega arith),
+      numbers-more (loop .before .before .before .args .numbers .now) (loop .loop .inv .2)
+          (put .put-number-line .ensures .0) (omega arith),
     )
 
 same-length : tie.Need-same-length Inv-loop μ-loop

@@ -10,7 +10,8 @@ use Rattle.ask_text.proofs.put_pairs.Statement.{statement}
 use Rattle.ask_text.proofs.put_pairs.Tie as tie
 
 abbrev Inv-loop : tie.InvT-loop
-Inv-loop out₀ at words pairs next₀ k₀ out next k = (k ≤ pairs) × (next ≤ at + 22 * k) × Put out₀ at (pairLines (pairsIn k words)) next out
+Inv-loop out₀ at words pairs next₀ k₀ out next k =
+    (k ≤ pairs) × (next ≤ at + 22 * k) × Put out₀ at (pairLines (pairsIn k words)) next out
 
 abbrev μ-loop : tie.MeasureT-loop
 μ-loop out₀ at words pairs next₀ k₀ out next k = pairs - k
@@ -44,8 +45,10 @@ slice-aggregate-put-number-line c = search needs
 
 put-number-line-requires : tie.Need-put-number-line-requires Inv-loop μ-loop
 put-number-line-requires c κs =
-    let loop = c .before .before .before .before .before in
-    omega (arith, loop .before .before .before .pre .1, loop .loop .inv .1, loop .loop .inv .2 .size, c .before .before .before .before .loop-test .taken)
+    let step = c .before .before .before .before in
+    let loop = step .before in
+    let inv = loop .loop .inv in
+    omega (arith, loop .before .before .before .pre .1, inv .1, inv .2 .size, step .loop-test .taken)
 
 add-k : tie.Need-add-k Inv-loop μ-loop
 add-k c = omega arith
@@ -59,7 +62,8 @@ loop-again c =
     let loop = put .before .before .before .before .before .before in (
       omega arith,
       omega (arith, loop .loop .inv .1, put .put-number-line .ensures .1),
-      pairs-more (loop .loop .k) (loop .before .before .before .args .words .now) (loop .loop .inv .2) (put .put-number-line .ensures .0),
+      pairs-more (loop .loop .k) (loop .before .before .before .args .words .now)
+          (loop .loop .inv .2) (put .put-number-line .ensures .0),
     )
 
 same-length : tie.Need-same-length Inv-loop μ-loop
@@ -67,7 +71,8 @@ same-length c = c .before .loop .inv .2 .size
 
 returns : tie.Need-returns Inv-loop μ-loop
 returns c =
-    let z : c .before .loop .k ≡ c .before .before .before .before .args .pairs = omega (arith, c .before .loop .inv .0, c .loop-test .left) in
+    let z : c .before .loop .k ≡ c .before .before .before .before .args .pairs =
+    omega (arith, c .before .loop .inv .0, c .loop-test .left) in
     rw z at (c .before .loop .inv .2)
 
 pub put-pairs-spec : {M : Type 1} → statement M

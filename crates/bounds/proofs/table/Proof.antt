@@ -28,7 +28,8 @@ enum-known-rule c = search needs
 returns : tie.Need-returns
 returns c =
     let broken = ap paper (c .before .rule .given .1) in
-    table-refused _ _ _ _ _ (refusal-question _ _ _ _ _ (sym (c .before .before .before .question-rule .ensures) ∙ broken))
+    table-refused _ _ _ _ _
+    (refusal-question _ _ _ _ _ (sym (c .before .before .before .question-rule .ensures) ∙ broken))
 
 enum-told : tie.Need-enum-told
 enum-told c = search needs

@@ -60,7 +60,8 @@ element-set-from-moved c = omega arith
 add-above : tie.Need-add-above Inv-loop μ-loop
 add-above c =
     let (early, few, tick, half, kept) = head (c .before) .loop .inv in
-    omega (arith, half-small tick half (omega arith), half-top tick half (omega arith) (c .before .progress-moved .ensures))
+    omega
+    (arith, half-small tick half (omega arith), half-top tick half (omega arith) (c .before .progress-moved .ensures))
 
 add-j : tie.Need-add-j Inv-loop μ-loop
 add-j c = omega arith
@@ -70,8 +71,9 @@ loop-less c = omega arith
 
 loop-again : tie.Need-loop-again Inv-loop μ-loop
 loop-again c =
-    let (early, few, tick, half, kept) = head (c .before) .loop .inv in
-    (omega arith, few, tick, half-more tick half (omega arith) (c .before .progress-moved .ensures), unmoved-progress kept)
+    let step = c .before in
+    let (early, few, tick, half, kept) = head step .loop .inv in
+    (omega arith, few, tick, half-more tick half (omega arith) (step .progress-moved .ensures), unmoved-progress kept)
 
 mul-progress-2 : tie.Need-mul-progress-2 Inv-loop μ-loop
 mul-progress-2 c = omega arith
@@ -107,7 +109,8 @@ returns : tie.Need-returns Inv-loop μ-loop
 returns c =
     let loop = end (c .before) in
     let (early, few, tick, half, kept) = loop .before .loop .inv in
-    half-idle tick (half-last half early (loop .loop-test .left)) (c .before .progress-moved2 .ensures) kept (c .if1 .taken)
+    half-idle tick (half-last half early (loop .loop-test .left)) (c .before .progress-moved2 .ensures)
+    kept (c .if1 .taken)
 
 returns-2 : tie.Need-returns-2 Inv-loop μ-loop
 returns-2 c =

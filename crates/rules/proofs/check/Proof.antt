@@ -22,7 +22,8 @@ enum-known-rule : tie.Need-enum-known-rule
 enum-known-rule c = search needs
 
 returns : tie.Need-returns
-returns c = sym (check-broken _ (sym (c .before .before .before .first-rules .ensures) ∙ ap paper (c .before .rule .given .1)))
+returns c =
+    sym (check-broken _ (sym (c .before .before .before .first-rules .ensures) ∙ ap paper (c .before .rule .given .1)))
 
 enum-told : tie.Need-enum-told
 enum-told c = search needs
@@ -40,7 +41,8 @@ returns-2 c =
     ∙ sym (check-nine _ (kept (long .before .before)) (long .before .hyperperiod-of .ensures .above (long .if1 .taken)))
 
 machine-count-requires : tie.Need-machine-count-requires
-machine-count-requires c κs = omega (arith, first-rules-so _ (kept (c .before .before)) .offsets .entries .trailer .long .0)
+machine-count-requires c κs =
+    omega (arith, first-rules-so _ (kept (c .before .before)) .offsets .entries .trailer .long .0)
 
 cast-t8 : tie.Need-cast-t8
 cast-t8 c = search needs

@@ -16,8 +16,10 @@ same-length c = search needs
 returns : tie.Need-returns
 returns c =
     let end = c .before .before in
-    let word = end .before .before .before .before in
-    (put-then (word .put-bytes .ensures) (end .put-line-end .ensures .0), omega (arith, word .put-bytes .ensures .next, end .put-line-end .ensures .1))
+    let word = end .before .before .before .before in (
+      put-then (word .put-bytes .ensures) (end .put-line-end .ensures .0),
+      omega (arith, word .put-bytes .ensures .next, end .put-line-end .ensures .1),
+    )
 
 pub put-line-spec : {M : Type 1} → statement M
 put-line-spec = tie.close (tie.spec put-bytes-requires put-line-end-requires same-length returns)

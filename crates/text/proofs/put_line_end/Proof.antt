@@ -16,8 +16,10 @@ same-length c = search needs
 returns : tie.Need-returns
 returns c =
     let ended = c .before .before in
-    let spaced = ended .before .before .before .before in
-    (put-then (spaced .put-spaced .ensures .0) (ended .put-byte .ensures), omega (arith, spaced .put-spaced .ensures .1, ended .put-byte .ensures .next))
+    let spaced = ended .before .before .before .before in (
+      put-then (spaced .put-spaced .ensures .0) (ended .put-byte .ensures),
+      omega (arith, spaced .put-spaced .ensures .1, ended .put-byte .ensures .next),
+    )
 
 pub put-line-end-spec : {M : Type 1} → statement M
 put-line-end-spec = tie.close (tie.spec put-spaced-requires put-byte-requires same-length returns)

@@ -11,7 +11,8 @@ use Rattle.walk.proofs.tick.Statement.{statement}
 use Rattle.walk.proofs.tick.Tie as tie
 
 abbrev Inv-loop : tie.InvT-loop
-Inv-loop sheet entry mask way old row₀ unseen₀ j₀ row unseen j = Ticking way (machineAt sheet entry) mask old j unseen row
+Inv-loop sheet entry mask way old row₀ unseen₀ j₀ row unseen j =
+    Ticking way (machineAt sheet entry) mask old j unseen row
 
 abbrev μ-loop : tie.MeasureT-loop
 μ-loop sheet entry mask way old row₀ unseen₀ j₀ row unseen j = unseen

@@ -39,7 +39,8 @@ returns-2 c =
     let (kept, counted) = accepted-so _ (told .before .before .check .ensures) (told .checked2 .given .1) in
     ap some (c .placeless2 .ensures)
     ∙ sym (question-window _ _ _ _ kept
-    (omega (arith, counted .count, c .before .before .before .if1 .left)) (sym (c .before .before .in-range .ensures) ∙ not-true _ (c .before .if2 .taken)))
+    (omega (arith, counted .count, c .before .before .before .if1 .left))
+    (sym (c .before .before .in-range .ensures) ∙ not-true _ (c .before .if2 .taken)))
 
 returns-3 : tie.Need-returns-3
 returns-3 c =
@@ -51,7 +52,8 @@ returns-4 c =
     let told = c .before .before .before .before in
     let (kept, counted) = accepted-so _ (told .before .before .check .ensures) (told .checked2 .given .1) in
     sym (question-kept _ _ _ _ kept
-    (omega (arith, counted .count, c .before .before .if1 .left)) (sym (c .before .in-range .ensures) ∙ not-false _ (c .if2 .left)))
+    (omega (arith, counted .count, c .before .before .if1 .left))
+    (sym (c .before .in-range .ensures) ∙ not-false _ (c .if2 .left)))
 
 pub question-rule-spec : {M : Type 1} → statement M
 question-rule-spec =

@@ -32,7 +32,8 @@ loop-less c = omega arith
 loop-again : tie.Need-loop-again Inv-loop μ-loop
 loop-again c =
     let step = c .before .before in
-    passed-more (step .before .loop .inv) (step .loop-test .taken) (sym (c .before .has-instant .ensures) ∙ c .if1 .left)
+    passed-more (step .before .loop .inv) (step .loop-test .taken)
+    (sym (c .before .has-instant .ensures) ∙ c .if1 .left)
 
 returns-2 : tie.Need-returns-2 Inv-loop μ-loop
 returns-2 c = passed-first (c .before .loop .inv) (λ l. absurd (omega arith))

@@ -69,7 +69,8 @@ module _ (n : ℕ) where
       → action-asks-lts.Else1 action-calls action-asks-at action-asks.Post
   action-found c = c .before .before .before
 
-  action-first-instant-requires : action-asks-lts.Need-first-instant-requires action-calls action-asks-at action-asks.Post
+  action-first-instant-requires : action-asks-lts.Need-first-instant-requires action-calls action-asks-at
+      action-asks.Post
   action-first-instant-requires c κs = c .before .pre .1
 
   action-returns : action-asks-lts.Need-returns action-calls action-asks-at action-asks.Post

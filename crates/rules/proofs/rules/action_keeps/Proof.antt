@@ -50,7 +50,8 @@ returns c =
     let m = machineAt (start .args .sheet .now) (start .args .entry) in
     seven-test m (actionOf m (start .args .j)) (source .before .if1 .taken) (start .pre .0 .has .states)
     (source .source .ensures) (sink .sink .ensures) (read .period .ensures)
-    (c .before .before .before .between .ensures) (c .before .before .time .ensures) (c .before .between2 .ensures) (c .deadline .ensures)
+    (c .before .before .before .between .ensures) (c .before .before .time .ensures)
+    (c .before .between2 .ensures) (c .deadline .ensures)
 
 deadline-requires-2 : tie.Need-deadline-requires-2
 deadline-requires-2 c κs = c .before .before .pre .0

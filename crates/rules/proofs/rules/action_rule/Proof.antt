@@ -22,7 +22,8 @@ loop-holds : tie.Need-loop-holds Inv-loop μ-loop
 loop-holds c = (omega arith, clear-begin)
 
 machine-rule-requires : tie.Need-machine-rule-requires Inv-loop μ-loop
-machine-rule-requires c κs = (c .before .before .before .before .pre, omega (arith, c .before .before .machine-count .ensures .0))
+machine-rule-requires c κs =
+    (c .before .before .before .before .pre, omega (arith, c .before .before .machine-count .ensures .0))
 
 enum-told : tie.Need-enum-told Inv-loop μ-loop
 enum-told c = search needs
@@ -31,7 +32,9 @@ returns : tie.Need-returns Inv-loop μ-loop
 returns c =
     let step = c .before .before .before in
     let broken = ap paper (c .enum-told .given .1) in
-    broken ∙ sym (clear-found _ (step .before .loop .inv .1) (omega (arith, step .before .before .machine-count .ensures .0)) (sym (c .before .before .machine-rule .ensures) ∙ broken))
+    broken ∙ sym (clear-found _ (step .before .loop .inv .1)
+    (omega (arith, step .before .before .machine-count .ensures .0))
+    (sym (c .before .before .machine-rule .ensures) ∙ broken))
 
 enum-told-2 : tie.Need-enum-told-2 Inv-loop μ-loop
 enum-told-2 c = search needs
@@ -46,7 +49,8 @@ loop-again : tie.Need-loop-again Inv-loop μ-loop
 loop-again c =
     let step = c .before .before .before in (
       omega arith,
-      clear-more (step .before .loop .inv .1) (sym (c .before .before .machine-rule .ensures) ∙ ap paper (c .enum-told2 .given .1)),
+      clear-more (step .before .loop .inv .1)
+          (sym (c .before .before .machine-rule .ensures) ∙ ap paper (c .enum-told2 .given .1)),
     )
 
 returns-2 : tie.Need-returns-2 Inv-loop μ-loop

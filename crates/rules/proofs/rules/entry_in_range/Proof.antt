@@ -25,7 +25,8 @@ returns c =
     let read = c .before .before in
     entry-test _ _ (read .before .before .before .before .before .pre .1) _ _ _ _ _ _
     (read .before .before .before .states .ensures) (read .before .before .initial .ensures)
-    (read .before .action-count .ensures) (read .zero-byte .ensures) (c .before .between .ensures) (c .between2 .ensures)
+    (read .before .action-count .ensures) (read .zero-byte .ensures)
+    (c .before .between .ensures) (c .between2 .ensures)
 
 pub entry-in-range-spec : {M : Type 1} → statement M
 entry-in-range-spec =

@@ -20,7 +20,8 @@ loop-holds : tie.Need-loop-holds Inv-loop μ-loop
 loop-holds c = (omega arith, clear-begin)
 
 entry-in-range-requires : tie.Need-entry-in-range-requires Inv-loop μ-loop
-entry-in-range-requires c κs = (c .before .before .before .before .pre, omega (arith, c .before .before .machine-count .ensures .0))
+entry-in-range-requires c κs =
+    (c .before .before .before .before .pre, omega (arith, c .before .before .machine-count .ensures .0))
 
 broken-requires : tie.Need-broken-requires Inv-loop μ-loop
 broken-requires c κs = omega (arith, c .before .before .before .before .machine-count .ensures .0)

@@ -15,22 +15,28 @@ use Rattle.rules.proofs.rules.hyperperiod_of.Statement.{statement}
 use Rattle.rules.proofs.rules.hyperperiod_of.Tie as tie
 
 abbrev Inv-loop : tie.InvT-loop
-Inv-loop sheet machines h₀ k₀ h k = (k ≤ machines) × Between 1 longestHyperperiod h × Gathering (decode sheet) h k (hyperperiod (decode sheet))
+Inv-loop sheet machines h₀ k₀ h k =
+    (k ≤ machines) × Between 1 longestHyperperiod h × Gathering (decode sheet) h k (hyperperiod (decode sheet))
 
 abbrev μ-loop : tie.MeasureT-loop
 μ-loop sheet machines h₀ k₀ h k = machines - k
 
 -- a step's machine is one of the sheet's
-known : (c : tie.In-loop Inv-loop μ-loop) → c .before .loop .k < machineCount (c .before .before .before .before .args .sheet .now)
+known : (c : tie.In-loop Inv-loop μ-loop)
+    → c .before .loop .k < machineCount (c .before .before .before .before .args .sheet .now)
 known c = omega (arith, c .before .before .machine-count .ensures .0)
 
-here : (c : tie.In-loop Inv-loop μ-loop) → c .before .loop .k < length (decode (c .before .before .before .before .args .sheet .now))
+here : (c : tie.In-loop Inv-loop μ-loop)
+    → c .before .loop .k < length (decode (c .before .before .before .before .args .sheet .now))
 here c = omega (arith, known c, decode-count (c .before .before .before .before .args .sheet .now))
 
 -- the least common multiple with its periods
 positive : (c : tie.In-loop Inv-loop μ-loop)
-    → 0 < fold lcm (c .before .loop .h) (periods (machineOf (decode (c .before .before .before .before .args .sheet .now)) (c .before .loop .k)))
-positive c = lcms-positive _ _ (c .before .loop .inv .1 .0) (machine-positive _ (c .before .before .before .before .pre) (known c))
+    → 0 < fold lcm (c .before .loop .h)
+    (periods (machineOf (decode (c .before .before .before .before .args .sheet .now)) (c .before .loop .k)))
+positive c =
+    lcms-positive _ _ (c .before .loop .inv .1 .0)
+    (machine-positive _ (c .before .before .before .before .pre) (known c))
 
 machine-count-requires : tie.Need-machine-count-requires Inv-loop μ-loop
 machine-count-requires c κs = omega arith
@@ -58,13 +64,18 @@ loop-less c = omega arith
 loop-again : tie.Need-loop-again Inv-loop μ-loop
 loop-again c =
     let step = c .before .before in
-    let same = c .before .multiple-of .ensures .exact (c .if1 .left) in
-    (omega arith, (omega (arith, positive step), omega arith), gathering-more _ (step .before .loop .inv .2) (here step) same)
+    let same = c .before .multiple-of .ensures .exact (c .if1 .left) in (
+      omega arith,
+      (omega (arith, positive step), omega arith),
+      gathering-more _ (step .before .loop .inv .2) (here step) same,
+    )
 
 returns-2 : tie.Need-returns-2 Inv-loop μ-loop
 returns-2 c =
     let sheet = c .before .before .before .before in
-    let same = gathering-end (c .before .loop .inv .2) (omega (arith, decode-count (sheet .args .sheet .now), c .before .before .machine-count .ensures .0)) in
+    let same =
+    gathering-end (c .before .loop .inv .2)
+    (omega (arith, decode-count (sheet .args .sheet .now), c .before .before .machine-count .ensures .0)) in
     record { exact = λ l. same; above = λ l. absurd (omega arith) }
 
 pub hyperperiod-of-spec : {M : Type 1} → statement M

@@ -12,7 +12,8 @@ use Rattle.rules.proofs.rules.offset_rule.Statement.{statement}
 use Rattle.rules.proofs.rules.offset_rule.Tie as tie
 
 abbrev Inv-loop : tie.InvT-loop
-Inv-loop sheet machines begin₀ k₀ begin k = (k ≤ machines) × (begin ≤ 256 * k) × (begin ≡ actionSize * actionsBefore sheet k) × Clear (offsetRefusal sheet) k
+Inv-loop sheet machines begin₀ k₀ begin k =
+    (k ≤ machines) × (begin ≤ 256 * k) × (begin ≡ actionSize * actionsBefore sheet k) × Clear (offsetRefusal sheet) k
 
 abbrev μ-loop : tie.MeasureT-loop
 μ-loop sheet machines begin₀ k₀ begin k = machines - k
@@ -33,7 +34,8 @@ last : (c : tie.After-loop Inv-loop μ-loop) → c .before .loop .k ≡ c .befor
 last c = omega arith
 
 none-before : (c : tie.After-loop Inv-loop μ-loop)
-    → firstOf (offsetRefusal (c .before .before .before .before .args .sheet .now)) 0 (machineCount (c .before .before .before .before .args .sheet .now)) ≡ none
+    → firstOf (offsetRefusal (c .before .before .before .before .args .sheet .now)) 0
+    (machineCount (c .before .before .before .before .args .sheet .now)) ≡ none
 none-before c =
     let counted = c .before .before .machine-count .ensures .0 in
     clear-end _ (c .before .loop .inv .3) (omega (arith, counted))
@@ -46,7 +48,8 @@ unfolding actionsBefore
 loop-holds c = (omega arith, omega arith, omega arith, clear-begin)
 
 first-action-requires : tie.Need-first-action-requires Inv-loop μ-loop
-first-action-requires c κs = (c .before .before .before .before .pre .trailer, omega (arith, c .before .before .machine-count .ensures .0))
+first-action-requires c κs =
+    (c .before .before .before .before .pre .trailer, omega (arith, c .before .before .machine-count .ensures .0))
 
 broken-requires : tie.Need-broken-requires Inv-loop μ-loop
 broken-requires c κs = omega (arith, c .before .before .before .before .machine-count .ensures .0)
@@ -55,11 +58,16 @@ returns : tie.Need-returns Inv-loop μ-loop
 returns c =
     let step = c .before .before .before in
     c .broken .ensures
-    ∙ sym (orElse-refused _ (clear-found _ (step .before .loop .inv .3) (omega (arith, step .before .before .machine-count .ensures .0))
-    (equal-broken _ _ _ (λ e. c .before .if1 .taken (c .before .before .first-action .ensures ∙ e ∙ sym (step .before .loop .inv .2))))))
+    ∙ sym (orElse-refused _ (clear-found _ (step .before .loop .inv .3)
+    (omega (arith, step .before .before .machine-count .ensures .0))
+    (equal-broken _ _ _
+    (λ e. c .before .if1 .taken (c .before .before .first-action .ensures ∙ e ∙ sym (step .before .loop .inv .2))))))
 
 action-count-requires : tie.Need-action-count-requires Inv-loop μ-loop
-action-count-requires c κs = (c .before .before .before .before .before .before .pre .trailer, omega (arith, c .before .before .before .before .machine-count .ensures .0))
+action-count-requires c κs = (
+  c .before .before .before .before .before .before .pre .trailer,
+  omega (arith, c .before .before .before .before .machine-count .ensures .0),
+)
 
 mul-begin : tie.Need-mul-begin Inv-loop μ-loop
 mul-begin c = omega (arith, few c)
@@ -78,8 +86,10 @@ loop-again c =
     let step = c .before .before .before in (
       omega arith,
       omega (arith, few c),
-      begin-next _ _ (omega (arith, step .before .before .machine-count .ensures .0)) _ _ (step .before .loop .inv .2) (c .action-count .ensures),
-      clear-more (step .before .loop .inv .3) (equal-kept _ _ _ (sym (c .before .before .first-action .ensures) ∙ c .before .if1 .left ∙ step .before .loop .inv .2)),
+      begin-next _ _ (omega (arith, step .before .before .machine-count .ensures .0)) _ _
+          (step .before .loop .inv .2) (c .action-count .ensures),
+      clear-more (step .before .loop .inv .3) (equal-kept _ _ _
+          (sym (c .before .before .first-action .ensures) ∙ c .before .if1 .left ∙ step .before .loop .inv .2)),
     )
 
 trailer-offset-requires : tie.Need-trailer-offset-requires Inv-loop μ-loop

@@ -25,7 +25,8 @@ past-one c = orElse-clear _ (kept-here _ _ (c .before .between .ensures) (c .if1
 past-two : (c : tie.Else2)
     → let b = c .before .before .before .before .before .args .sheet .now in
     trailerRules b ≡ rule3 b orElse rule4 b
-past-two c = past-one (c .before .before) ∙ orElse-clear _ (kept-here _ _ (c .before .ends-in-sfs1 .ensures) (c .if2 .left))
+past-two c =
+    past-one (c .before .before) ∙ orElse-clear _ (kept-here _ _ (c .before .ends-in-sfs1 .ensures) (c .if2 .left))
 
 -- the test of the count that was read is the test of the count
 counted : (c : tie.After-between2)

@@ -9,7 +9,8 @@ entry-byte-requires : tie.Need-entry-byte-requires
 entry-byte-requires c κs = search needs
 
 returns : tie.Need-returns
-returns c = c .entry-byte .ensures ∙ sym (ap (λ (m : Machine). m .initial) (decode-machine _ _ (c .before .before .pre .1)))
+returns c =
+    c .entry-byte .ensures ∙ sym (ap (λ (m : Machine). m .initial) (decode-machine _ _ (c .before .before .pre .1)))
 
 pub initial-spec : {M : Type 1} → statement M
 initial-spec = tie.close (tie.spec entry-byte-requires returns)

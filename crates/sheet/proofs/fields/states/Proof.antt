@@ -10,7 +10,9 @@ entry-byte-requires : tie.Need-entry-byte-requires
 entry-byte-requires c κs = search needs
 
 returns : tie.Need-returns
-returns c = rw add-zero at (c .entry-byte .ensures) ∙ sym (ap (λ (m : Machine). m .states) (decode-machine _ _ (c .before .before .pre .1)))
+returns c =
+    rw add-zero at (c .entry-byte .ensures)
+    ∙ sym (ap (λ (m : Machine). m .states) (decode-machine _ _ (c .before .before .pre .1)))
 
 pub states-spec : {M : Type 1} → statement M
 states-spec = tie.close (tie.spec entry-byte-requires returns)

@@ -32,8 +32,11 @@ loop-less c = omega arith
 
 loop-again : tie.Need-loop-again Inv-loop μ-loop
 loop-again c =
-    let step = c .before .before .before in
-    (omega arith, clear-more (step .before .loop .inv .1) (sym (c .before .before .start-judged .ensures) ∙ ap paper (c .enum-told .given .1)))
+    let step = c .before .before .before in (
+      omega arith,
+      clear-more (step .before .loop .inv .1)
+          (sym (c .before .before .start-judged .ensures) ∙ ap paper (c .enum-told .given .1)),
+    )
 
 enum-told-2 : tie.Need-enum-told-2 Inv-loop μ-loop
 enum-told-2 c = search needs
@@ -43,7 +46,9 @@ unfolding machineGives
 returns c =
     let step = c .before .before .before in
     let some = ap paper (c .enum-told2 .given .1) in
-    some ∙ sym (clear-found _ (step .before .loop .inv .1) (omega (arith, step .before .before .before .before .before .pre .0 .period)) (sym (c .before .before .start-judged .ensures) ∙ some))
+    some ∙ sym (clear-found _ (step .before .loop .inv .1)
+    (omega (arith, step .before .before .before .before .before .pre .0 .period))
+    (sym (c .before .before .start-judged .ensures) ∙ some))
 
 enum-told-3 : tie.Need-enum-told-3 Inv-loop μ-loop
 enum-told-3 c = search needs
@@ -53,11 +58,15 @@ unfolding machineGives
 returns-2 c =
     let step = c .before .before .before in
     let some = ap paper (c .enum-told3 .given .1) in
-    some ∙ sym (clear-found _ (step .before .loop .inv .1) (omega (arith, step .before .before .before .before .before .pre .0 .period)) (sym (c .before .before .start-judged .ensures) ∙ some))
+    some ∙ sym (clear-found _ (step .before .loop .inv .1)
+    (omega (arith, step .before .before .before .before .before .pre .0 .period))
+    (sym (c .before .before .start-judged .ensures) ∙ some))
 
 returns-3 : tie.Need-returns-3 Inv-loop μ-loop
 unfolding machineGives
-returns-3 c = sym (clear-end _ (c .before .loop .inv .1) (omega (arith, c .before .before .before .before .before .pre .0 .period)))
+returns-3 c =
+    sym (clear-end _ (c .before .loop .inv .1)
+    (omega (arith, c .before .before .before .before .before .pre .0 .period)))
 
 pub machine-judged-spec : {M : Type 1} → statement M
 machine-judged-spec =

@@ -10,7 +10,8 @@ use Rattle.verdict.proofs.starts.machines_judged.Statement.{statement}
 use Rattle.verdict.proofs.starts.machines_judged.Tie as tie
 
 abbrev Inv-loop : tie.InvT-loop
-Inv-loop sheet masks lowest machines h machine₀ machine = (machine ≤ machines) × Clear (machineGives (decode sheet)) machine
+Inv-loop sheet masks lowest machines h machine₀ machine =
+    (machine ≤ machines) × Clear (machineGives (decode sheet)) machine
 
 abbrev μ-loop : tie.MeasureT-loop
 μ-loop sheet masks lowest machines h machine₀ machine = machines - machine
@@ -32,8 +33,11 @@ loop-less c = omega arith
 
 loop-again : tie.Need-loop-again Inv-loop μ-loop
 loop-again c =
-    let step = c .before .before .before in
-    (omega arith, clear-more (step .before .loop .inv .1) (sym (c .before .before .machine-judged .ensures) ∙ ap paper (c .enum-told .given .1)))
+    let step = c .before .before .before in (
+      omega arith,
+      clear-more (step .before .loop .inv .1)
+          (sym (c .before .before .machine-judged .ensures) ∙ ap paper (c .enum-told .given .1)),
+    )
 
 enum-told-2 : tie.Need-enum-told-2 Inv-loop μ-loop
 enum-told-2 c = search needs
@@ -42,7 +46,9 @@ returns : tie.Need-returns Inv-loop μ-loop
 returns c =
     let step = c .before .before .before in
     let some = ap paper (c .enum-told2 .given .1) in
-    some ∙ sym (clear-found _ (step .before .loop .inv .1) (omega (arith, step .before .before .before .before .before .pre .1)) (sym (c .before .before .machine-judged .ensures) ∙ some))
+    some ∙ sym (clear-found _ (step .before .loop .inv .1)
+    (omega (arith, step .before .before .before .before .before .pre .1))
+    (sym (c .before .before .machine-judged .ensures) ∙ some))
 
 enum-told-3 : tie.Need-enum-told-3 Inv-loop μ-loop
 enum-told-3 c = search needs
@@ -51,10 +57,13 @@ returns-2 : tie.Need-returns-2 Inv-loop μ-loop
 returns-2 c =
     let step = c .before .before .before in
     let some = ap paper (c .enum-told3 .given .1) in
-    some ∙ sym (clear-found _ (step .before .loop .inv .1) (omega (arith, step .before .before .before .before .before .pre .1)) (sym (c .before .before .machine-judged .ensures) ∙ some))
+    some ∙ sym (clear-found _ (step .before .loop .inv .1)
+    (omega (arith, step .before .before .before .before .before .pre .1))
+    (sym (c .before .before .machine-judged .ensures) ∙ some))
 
 returns-3 : tie.Need-returns-3 Inv-loop μ-loop
-returns-3 c = sym (clear-end _ (c .before .loop .inv .1) (omega (arith, c .before .before .before .before .before .pre .1)))
+returns-3 c =
+    sym (clear-end _ (c .before .loop .inv .1) (omega (arith, c .before .before .before .before .before .pre .1)))
 
 pub machines-judged-spec : {M : Type 1} → statement M
 machines-judged-spec =
