@@ -24,7 +24,7 @@ pub(crate) fn first_instant(sheet: &[u8], entry: Entry, k: usize, t: u32, to: u3
 }
 
 // Whether some action of the machine has an instant at t.
-fn has_instant(sheet: &[u8], entry: Entry, t: u32) -> bool
+fn machine_has_instant(sheet: &[u8], entry: Entry, t: u32) -> bool
     requires { ⌜ IsEntry (now sheet) entry ⌝ }
     ensures { λ r. ⌜ r ≡ hasInstant (machineAt (now (sheet .entry)) entry) t ⌝ }
 {
@@ -46,7 +46,7 @@ pub(crate) fn instants_in(sheet: &[u8], entry: Entry, from: u32, to: u32) -> u32
     let mut number = 0;
     let mut t = from;
     while t < to {
-        if has_instant(sheet, entry, t) {
+        if machine_has_instant(sheet, entry, t) {
             number += 1;
         }
         t += 1;

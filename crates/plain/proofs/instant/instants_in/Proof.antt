@@ -16,8 +16,8 @@ abbrev μ-loop : tie.MeasureT-loop
 loop-holds : tie.Need-loop-holds Inv-loop μ-loop
 loop-holds c = counting-none (c .before .pre .1 .forward)
 
-has-instant-requires : tie.Need-has-instant-requires Inv-loop μ-loop
-has-instant-requires c κs = c .before .before .before .pre .0
+machine-has-instant-requires : tie.Need-machine-has-instant-requires Inv-loop μ-loop
+machine-has-instant-requires c κs = c .before .before .before .pre .0
 
 add-number : tie.Need-add-number Inv-loop μ-loop
 add-number c = omega arith
@@ -30,7 +30,7 @@ loop-less c = omega arith
 
 loop-again : tie.Need-loop-again Inv-loop μ-loop
 loop-again c =
-    let found = c .before .has-instant .ensures in
+    let found = c .before .machine-has-instant .ensures in
     let step = c .before .before .before .loop .inv in
     let more = c .before .before .loop-test .taken in
     ⊎-elim (λ w. counting-one step more (sym found ∙ w .0 .taken) (w .1))
@@ -46,7 +46,7 @@ instants-in-spec =
     Inv-loop
     μ-loop
     loop-holds
-    has-instant-requires
+    machine-has-instant-requires
     add-number
     add-t
     loop-less

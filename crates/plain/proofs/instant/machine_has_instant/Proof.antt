@@ -7,8 +7,8 @@ use mathlib.Core.Option.{none, some}
 use Rattle.model.specs.Reckon.{instant?}
 use Rattle.sheet.specs.Inside.{machineAt}
 use Rattle.plain.proofs.Instants.{hasInstant-by}
-use Rattle.plain.proofs.instant.has_instant.Statement.{statement}
-use Rattle.plain.proofs.instant.has_instant.Tie as tie
+use Rattle.plain.proofs.instant.machine_has_instant.Statement.{statement}
+use Rattle.plain.proofs.instant.machine_has_instant.Tie as tie
 
 abbrev Inv-loop : tie.InvT-loop
 Inv-loop sheet entry t k₀ k = (j : ℕ) → j < k → instant? (machineAt sheet entry) j t ≡ false
@@ -50,8 +50,8 @@ returns-2 c =
     let all = entry .has .actions in
     sym (hasInstant-by _ _ none (λ j l. c .before .before .loop .inv j (omega (arith, all, c .if1 .left))))
 
-pub has-instant-spec : {M : Type 1} → statement M
-has-instant-spec =
+pub machine-has-instant-spec : {M : Type 1} → statement M
+machine-has-instant-spec =
     tie.close
     (tie.spec
     Inv-loop
