@@ -1,6 +1,8 @@
 // Answers one question about a sheet from standard input. Four words of the command line name the question, the machine
 // and the window; for words that ask nothing the usage is said on standard error, and no sheet is read. A word of over
 // 64 characters is none.
+#![tactic(auto)]
+
 use reply::{Asked, Question};
 use terminal::Input;
 

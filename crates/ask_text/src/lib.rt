@@ -1,4 +1,6 @@
 // The text of the answer to one question, made in lent bytes. Definitions: specs/Ask.antt.
+#![tactic(auto)]
+
 ghost use Rattle.std.specs.Prelude.{◌≡◌, [], ◌+◌, ◌*◌, ◌≤◌, length as list_length};
 ghost use Rattle.reply.specs.declared.Kind.TheVariants.{Table, Critical};
 ghost use Rattle.reply.specs.Answer.{paper};

@@ -1,4 +1,6 @@
 // What the words of `ask`'s command line ask. Definitions: specs/Asks.antt.
+#![tactic(auto)]
+
 ghost use Rattle.std.specs.Prelude.{◌≡◌};
 ghost use Rattle.ask_words.specs.Asks.{kind_of, asks};
 ghost use Rattle.ask_words.specs.Inside.{paper};

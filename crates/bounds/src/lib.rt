@@ -1,5 +1,7 @@
 // The bounds of a machine in a window: the request bound, the demand bound, and the request table.
 // Definitions: specs/Bounds.antt and specs/Table.antt.
+#![tactic(auto)]
+
 ghost use Rattle.std.specs.Prelude.{◌≡◌, ◌+◌, ◌<◌, length as list_length};
 ghost use Rattle.model.specs.Machine.{machine_of};
 ghost use Rattle.model.specs.Legal.{IsRequestBound, IsDemandBound};

@@ -1,5 +1,7 @@
 // The critical sequence of a window: found by one pass back over the ticks, which lays rows of
 // best figures, and one walk forward. Definitions: specs/Critical.antt.
+#![tactic(auto)]
+
 mod forward;
 
 ghost use Rattle.std.specs.Prelude.{◌≡◌, length};

@@ -1,4 +1,5 @@
 // Sheets written byte by byte, right or wrong, for the vectors to be run on.
+#![tactic(auto)]
 
 // The first `used` bytes are the sheet. A byte past the room is dropped: no vector is that long.
 #[derive(Drop)]

@@ -1,4 +1,6 @@
 // A refusal in words. Definitions: specs/Words.antt.
+#![tactic(auto)]
+
 ghost use Rattle.std.specs.Prelude.{◌≡◌, ◌+◌, ◌≤◌, length};
 ghost use Rattle.reply.specs.Printed.{printed_length, printed};
 ghost use Rattle.text.specs.Inside.{Put};

@@ -1,5 +1,7 @@
 // Runs document 01's bounds, tables, critical sequences and texts. Each line has what is asked and the reply; the file
 // `stdout` beside src/ has what they must be. An action has a period T, a time C and a deadline D.
+#![tactic(auto)]
+
 mod sequences;
 
 use draft::{

@@ -1,5 +1,7 @@
 // Reads a sheet from standard input and prints its check, as document 01 has it: H, a line a machine, the verdict; or
 // REFUSED with number and place, whose words go to standard error.
+#![tactic(auto)]
+
 use terminal::Input;
 
 fn main() {

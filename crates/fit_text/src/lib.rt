@@ -1,4 +1,6 @@
 // The text of `fit`, made in lent bytes. Definitions: specs/Fit.antt.
+#![tactic(auto)]
+
 ghost use Rattle.std.specs.Prelude.{◌≡◌, ◌+◌, ◌*◌, ◌≤◌, ◌<◌, length};
 ghost use Rattle.model.specs.Verdict.{verdict};
 ghost use Rattle.reply.specs.Printed.{printed_length, printed_refusal, printed};

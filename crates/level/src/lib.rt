@@ -1,4 +1,6 @@
 // The machines from 0 to the one that is judged, walked together tick by tick. Definitions: specs/Inside.antt.
+#![tactic(auto)]
+
 pub mod masks;
 
 ghost use Rattle.std.specs.Prelude.{◌<◌};

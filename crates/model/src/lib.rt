@@ -1,5 +1,6 @@
 // Limits of sheets and windows, in ticks, and the way that a walk goes. All else here is definitions, in specs/, and
 // theorems, in proofs/.
+#![tactic(auto)]
 
 // A window is no longer. These five are those of specs/Limits.antt.
 pub const LONGEST_WINDOW: u32 = 2048;

@@ -1,5 +1,7 @@
 // Whole numbers as a sheet needs them: the greatest common divisor, the least common multiple, and
 // little-endian numbers read from lent bytes. Definitions: specs/Divide.antt and specs/Little.antt.
+#![tactic(auto)]
+
 ghost use Rattle.std.specs.Prelude.{◌≡◌, ◌+◌, ◌≤◌, ◌<◌, length, get_or};
 ghost use Rattle.number.specs.Divide.{gcd, lcm};
 ghost use Rattle.number.specs.Little.{le16, le32};

@@ -1,6 +1,8 @@
 // The plain reckoner: the request bound of one window, reckoned with no table. Each way to a state
 // asks it anew, so the work grows with the actions to the power of the instants; windows hold at
 // most 6 instants of the machine. Definitions: specs/Plain.antt.
+#![tactic(auto)]
+
 mod instant;
 mod reckon;
 

@@ -2,6 +2,8 @@
 // every reply and every lent word. Standard input: how many calls, then each call (call.rt). Standard
 // output: for each, the reply (replied.rt), and after a call that is lent words these words and the guards around them
 // (words.rt). Numbers are words of 32 bits, little-endian. At a call that is none the program stops.
+#![tactic(auto)]
+
 mod call;
 mod replied;
 mod words;

@@ -1,5 +1,7 @@
 // What calls answer: a refusal with its number and place, or what a call gives where nothing is refused; and questions.
 // Definitions: specs/Reply.antt, Lent.antt and Printed.antt, and a file for each answer.
+#![tactic(auto)]
+
 ghost use Rattle.std.specs.Prelude.{◌≡◌};
 ghost use Rattle.reply.specs.Reply.{refusal};
 

@@ -1,5 +1,7 @@
 // The pass back over the ticks: for each tick of the window a row of figures, one a state, with the
 // largest total from the state on. Row k begins at word 16 k. Definitions: specs/Inside.antt.
+#![tactic(auto)]
+
 ghost use Rattle.std.specs.Prelude.{◌≡◌, ◌*◌, ◌≤◌, length};
 ghost use Rattle.model.specs.Limits.{longest_window};
 ghost use Rattle.sheet.specs.Inside.{machine_at};

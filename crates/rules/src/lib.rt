@@ -1,4 +1,6 @@
 // The check of a sheet: rules 1 to 9, in order. Definitions: specs/Rules.antt and Check.antt.
+#![tactic(auto)]
+
 mod rules;
 
 ghost use Rattle.std.specs.Prelude.{◌≡◌};

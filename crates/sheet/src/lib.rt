@@ -1,5 +1,7 @@
 // The sheet: what its bytes mean, and the one reader of its entries and actions.
 // Definitions: specs/Format.antt, in document 01's order.
+#![tactic(auto)]
+
 pub mod fields;
 mod meaning;
 

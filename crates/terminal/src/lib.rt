@@ -1,4 +1,6 @@
 // The standard streams of the programs. No contract can say what is read or written; the gate runs it.
+#![tactic(auto)]
+
 ghost use Rattle.std.specs.Prelude.{◌≡◌, length};
 ghost use Rattle.terminal.specs.Inside.{LiesIn};
 

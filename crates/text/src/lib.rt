@@ -1,5 +1,7 @@
 // Text written into lent bytes, one piece after another: each function puts its piece at `at`, leaves the
 // bytes before it, and answers where the next piece goes. Definitions: specs/Text.antt.
+#![tactic(auto)]
+
 mod refused;
 
 ghost use Rattle.std.specs.Prelude.{◌≡◌, [], ◌∷◌, ◌+◌, ◌*◌, ◌≤◌, ◌<◌, length};

@@ -1,5 +1,7 @@
 // Runs document 01's further numbers and the wrong answers that the contracts rule out. Each line has
 // what is tried and the reply; the file `stdout` beside src/ has what they must be.
+#![tactic(auto)]
+
 use draft::{
     Draft, action, byte, cut, empty, entry, one, pair, pair_with, stay, trailer, two, two_actions,
     with_byte,

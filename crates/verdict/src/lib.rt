@@ -1,5 +1,7 @@
 // The verdict: whether a sheet's machines fit, and if not, the first window that shows it.
 // Definitions: specs/Judge.antt, over the model's specs/Verdict.antt and Run.antt.
+#![tactic(auto)]
+
 mod starts;
 
 ghost use Rattle.std.specs.Prelude.{◌≡◌};

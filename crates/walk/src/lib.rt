@@ -1,5 +1,7 @@
 // The walk over the ticks of a window: which actions may be triggered at each tick, and the row of
 // figures, one a state, that is moved from tick to tick. Definitions: specs/Inside.antt.
+#![tactic(auto)]
+
 ghost use Rattle.std.specs.Prelude.{◌≡◌, ◌+◌, ◌^◌, ◌≤◌, ◌<◌, length};
 ghost use Rattle.model.specs.Machine.{count, action_of, divisor as machine_divisor};
 ghost use Rattle.model.specs.Reckon.{most};

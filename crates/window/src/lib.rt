@@ -1,5 +1,7 @@
 // A question about a machine and a window: what may be asked.
 // Definitions: specs/Window.antt.
+#![tactic(auto)]
+
 ghost use Rattle.std.specs.Prelude.{◌≡◌, ◌<◌, ◌^◌};
 ghost use Rattle.reply.specs.Inside.{paper};
 ghost use Rattle.window.specs.Window.{question_refusal, window_in_range};
