@@ -8,7 +8,7 @@ ghost use Rattle.ask_words.specs.Inside.{paper};
 use reply::{Asked, Kind, Question};
 use text::Number;
 
-#[derive(Drop)]
+#[derive(Clone, Copy)]
 pub(crate) enum Name {
     Of(Kind),
     Unknown,

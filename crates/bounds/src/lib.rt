@@ -86,7 +86,7 @@ pub fn demand_of(sheet: &[u8], machine: usize, from: u32, length: u32) -> u32
 
 // How far a walk has come: the row, and the number of ticks up to the machine's last instant, its
 // mask and the row before it.
-#[derive(Drop)]
+#[derive(Clone, Copy)]
 struct Front {
     row: [u32; 16],
     last: u32,

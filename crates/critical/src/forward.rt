@@ -11,7 +11,7 @@ use model::Way;
 use sheet::{Entry, fields};
 
 // The states that the next pair may leave: any at first, and then the last pair's sink.
-#[derive(Drop)]
+#[derive(Clone, Copy)]
 pub(crate) enum Leaves {
     Any,
     State(usize),

@@ -2,7 +2,7 @@
 #![tactic(auto)]
 
 // The first `used` bytes are the sheet. A byte past the room is dropped: no vector is that long.
-#[derive(Drop)]
+#[derive(Clone, Copy)]
 pub struct Draft {
     pub bytes: [u8; 2200],
     pub used: usize,

@@ -13,7 +13,7 @@ use masks::STRIDE;
 use model::Way;
 
 // A machine in the walk: a figure a state, and the largest of them.
-#[derive(Drop)]
+#[derive(Clone, Copy)]
 pub struct Progress {
     pub row: [u32; 16],
     pub top: u32,
@@ -21,7 +21,7 @@ pub struct Progress {
 
 // Machines 0 to i in the walk for machine i: their progress, the requests above i added, i's own; and of
 // i's last instant so far the row before it, its mask, and how many ticks from the start it is.
-#[derive(Drop)]
+#[derive(Clone, Copy)]
 pub struct Level {
     pub progress: [Progress; 8],
     pub above: u32,

@@ -18,7 +18,7 @@ pub const LONGEST_TIME: u32 = 1024;
 pub const LONGEST_HYPERPERIOD: u32 = 1024;
 
 // A walk goes on from an action's source to its sink, or back.
-#[derive(Drop)]
+#[derive(Clone, Copy)]
 pub enum Way {
     On,
     Back,

@@ -7,7 +7,7 @@ use crate::{replied, words};
 use libc::STDIN_FILENO;
 use number::read_le32;
 
-#[derive(Drop)]
+#[derive(Clone, Copy)]
 pub(crate) struct Call {
     pub(crate) number: u32,
     pub(crate) machine: u32,

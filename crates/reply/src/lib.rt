@@ -6,7 +6,7 @@ ghost use Rattle.std.specs.Prelude.{◌≡◌};
 ghost use Rattle.reply.specs.Reply.{refusal};
 
 // Why a call is refused: the number of the reply, and its place.
-#[derive(Drop)]
+#[derive(Clone, Copy)]
 pub struct Refusal {
     pub number: u32,
     pub first: u32,
@@ -14,35 +14,35 @@ pub struct Refusal {
 }
 
 // What a rule says.
-#[derive(Drop)]
+#[derive(Clone, Copy)]
 pub enum Rule {
     Kept,
     Broken(Refusal),
 }
 
 // What `check` answers.
-#[derive(Drop)]
+#[derive(Clone, Copy)]
 pub enum Checked {
     Accepted { machines: u32, hyperperiod: u32 },
     Refused(Refusal),
 }
 
 // What a call answers that returns one number.
-#[derive(Drop)]
+#[derive(Clone, Copy)]
 pub enum Answer {
     Value(u32),
     Refused(Refusal),
 }
 
 // What `table` answers.
-#[derive(Drop)]
+#[derive(Clone, Copy)]
 pub enum Tabled {
     Filled,
     Refused(Refusal),
 }
 
 // A window that fails: machine, start, length, and the demand bound there.
-#[derive(Drop)]
+#[derive(Clone, Copy)]
 pub struct Window {
     pub machine: u32,
     pub start: u32,
@@ -51,7 +51,7 @@ pub struct Window {
 }
 
 // What `judge` answers.
-#[derive(Drop)]
+#[derive(Clone, Copy)]
 pub enum Verdict {
     Fits,
     Late(Window),
@@ -61,14 +61,14 @@ pub enum Verdict {
 
 // What was printed into lent bytes: the length of the text, and the refusal that it prints, number 0 at place 0, 0
 // where it prints none.
-#[derive(Drop)]
+#[derive(Clone, Copy)]
 pub struct Printed {
     pub length: usize,
     pub refusal: Refusal,
 }
 
 // What can be asked about a machine and a window.
-#[derive(Drop)]
+#[derive(Clone, Copy)]
 pub enum Kind {
     Request,
     Demand,
@@ -78,7 +78,7 @@ pub enum Kind {
 }
 
 // A question. For a table `to` is its length.
-#[derive(Drop)]
+#[derive(Clone, Copy)]
 pub struct Question {
     pub kind: Kind,
     pub machine: u32,
@@ -87,7 +87,7 @@ pub struct Question {
 }
 
 // What the words of a command line ask.
-#[derive(Drop)]
+#[derive(Clone, Copy)]
 pub enum Asked {
     This(Question),
     Nothing,

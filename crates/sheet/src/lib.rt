@@ -13,7 +13,7 @@ pub use meaning::{cost, divisor, has_instant};
 
 // A machine's entry, as its actions are read by it: the machine's number, its states and actions, and where its first
 // action stands.
-#[derive(Drop)]
+#[derive(Clone, Copy)]
 pub struct Entry {
     pub machine: usize,
     pub states: usize,

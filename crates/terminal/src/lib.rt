@@ -9,7 +9,7 @@ use reply::Refusal;
 
 // What reading a sheet came to: so many bytes, at the start of those lent, or a read that failed, whatever came
 // before it.
-#[derive(Drop)]
+#[derive(Clone, Copy)]
 pub enum Input {
     Bytes(usize),
     Failed,

@@ -11,7 +11,7 @@ ghost use Rattle.text.specs.Inside.{Put, paper};
 pub use refused::{print_refused, unrefused};
 
 // What a word says that should be a number.
-#[derive(Drop)]
+#[derive(Clone, Copy)]
 pub enum Number {
     Value(u32),
     Malformed,

@@ -17,7 +17,7 @@ use level::masks;
 use reply::{Checked, Verdict, Window};
 
 // What a start, a machine or a whole sheet gives: a window that fails, one that does not close, or nothing.
-#[derive(Drop)]
+#[derive(Clone, Copy)]
 pub enum Given {
     Nothing,
     Late(Window),
