@@ -19,7 +19,7 @@ use Rattle.reply.specs.declared.Tabled.TheVariants.{Filled, Refused}
 use Rattle.reply.specs.Answer.{paper}
 use Rattle.reply.specs.Reply.{refusal, unless}
 use Rattle.reply.specs.Lent.{unless_refused}
-use Rattle.reply.specs.Tabled.{paper as tabledPaper}
+use Rattle.reply.specs.Tabled.{paper as table_paper}
 use Rattle.reply.proofs.Refusals.{otherwise_answered, or_else_refused, or_else_clear, otherwise_refused}
 use Rattle.reply.proofs.Unique.{answer_unique, tabled_unique}
 use Rattle.sheet.specs.Format.{decode}
@@ -73,18 +73,19 @@ module _ (b : List ℕ) (i s n lent : ℕ) where
 -- what the contract says: the reply, the words afterwards, and that they are bounds
 abbrev Meets : List ℕ → ℕ → ℕ → ℕ → List ℕ → List ℕ → Tabled → Type 0
 Meets b i s n words after r =
-    (tabledPaper r ≡ table_reply b i s n words)
-    × ((after ≡ table_words b i s n words) × HoldsBounds (machine_of (decode b) i) s n after r)
+    (table_paper r ≡ table_reply b i s n words)
+    × (after ≡ table_words b i s n words)
+    × HoldsBounds (machine_of (decode b) i) s n after r
 
 module _ (b : List ℕ) (i s n : ℕ) (words : List ℕ) where
   pub table_refused : {r : Refusal} → table_refusal b i s n (length words) ≡ some r
       → Meets b i s n words words (Refused r)
   table_refused e =
-      (otherwise_refused _ e, (sym (ap (λ x. unless_refused x (with_table b i s n words) words) e), tt))
+      (otherwise_refused _ e, sym (ap (λ x. unless_refused x (with_table b i s n words) words) e), tt)
 
   pub table_filled : (after : List ℕ) → table_refusal b i s n (length words) ≡ none → after ≡ with_table b i s n words
       → Meets b i s n words after Filled
-  table_filled after e written = (otherwise_answered _ e, (rw e written, bound))
+  table_filled after e written = (otherwise_answered _ e, rw e written, bound)
     where
       m : Machine
       m = machine_of (decode b) i
@@ -94,6 +95,6 @@ module _ (b : List ℕ) (i s n : ℕ) (words : List ℕ) where
 
 -- no second result, and no second memory
 pub table_unique : (b : List ℕ) (i s n : ℕ) (words : List ℕ) (r q : Tabled) (after other : List ℕ)
-    → tabledPaper r ≡ table_reply b i s n words → tabledPaper q ≡ table_reply b i s n words
+    → table_paper r ≡ table_reply b i s n words → table_paper q ≡ table_reply b i s n words
     → after ≡ table_words b i s n words → other ≡ table_words b i s n words → (r ≡ q) × (after ≡ other)
 table_unique b i s n words r q after other e g h k = (tabled_unique r q e g, h ∙ sym k)
