@@ -9,7 +9,7 @@ use lib.Seq.{get_or-set_same, get_or-set_other, get_or-append-add, length-take-l
 use native.Mathlib.Nat.{zero-add}
 use borrow.Author.Count.{below_more}
 use borrow.Rule.Slice.PartMut.{put_mid, post_of, same_len_mid}
-use Rattle.model.specs.Machine.{machine_of, hyperperiod}
+use Rattle.model.specs.Machine.{machine_of}
 use Rattle.sheet.specs.Format.{decode}
 use Rattle.sheet.specs.Inside.{Counted}
 use Rattle.sheet.proofs.Entries.{few_machines}
