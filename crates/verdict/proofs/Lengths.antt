@@ -10,7 +10,7 @@ use native.Mathlib.Nat.{mod-lt, mod-eq_of_lt, mod-add-mod, add-zero}
 use lib.ListN.{length, get_or, replicate, get_or-replicate}
 use borrow.Author.Tests.{le-leb, lt-leb}
 use Rattle.model.specs.Limits.{longest_window}
-use Rattle.model.specs.Machine.{machine_of, hyperperiod}
+use Rattle.model.specs.Machine.{machine_of}
 use Rattle.model.specs.Sizes.{MachineSizes}
 use Rattle.model.specs.Reckon.{request, demand}
 use Rattle.model.specs.Verdict.{added, requests, closes, gives, Late, Open}
