@@ -3,6 +3,7 @@ use Prim.Native.Nat.{ℕ, ◌+◌, ◌≤◌, ◌<◌}
 use mathlib.Core.Path.{◌≡◌}
 use mathlib.Core.List.{List, [], ◌∷◌, ◌++◌, append-nil}
 use native.Mathlib.Omega.{arith}
+use Rattle.std.proofs.Common.{◌≢◌}
 use borrow.Author.Tests.{ne_eqb, lt-ltb, le-ltb}
 use lib.ListN.{length}
 use Rattle.reply.specs.declared.Refusal.{Refusal}
@@ -23,18 +24,11 @@ pub reason_nothing : {before : List ℕ} {at n : ℕ} (reason : ℕ → List ℕ
     → Put before at (reason n) at before × (at ≤ at + 100)
 reason_nothing {before} {at} reason e l = (rw e (put_nothing before at (omega arith)), omega arith)
 
--- n is none of the numbers that a `match` has named
-abbrev Other : ℕ → Type 0 → ℕ → Type 0
-Other n others k = others × (n ≡ k → ⊥)
-
 -- a number that no rule has gives no reason
-pub no_sheet_reason : (n : ℕ)
-    → Other n (Other n (Other n (Other n (Other n (Other n (Other n (Other n (Other n
-    (Unit {0}) 1) 2) 3) 4) 5) 6) 7) 8) 9
+pub no_sheet_reason : (n : ℕ) → n ≢ 1 → n ≢ 2 → n ≢ 3 → n ≢ 4 → n ≢ 5 → n ≢ 6 → n ≢ 7 → n ≢ 8 → n ≢ 9
     → sheet_reason n ≡ []
 unfolding sheet_reason
-no_sheet_reason n h =
-    let (((((((((_, a), b), c), d), e), f), g), i), j) = h in
+no_sheet_reason n a b c d e f g h i =
     rw (
       ne_eqb n 1 a,
       ne_eqb n 2 b,
@@ -43,14 +37,13 @@ no_sheet_reason n h =
       ne_eqb n 5 e,
       ne_eqb n 6 f,
       ne_eqb n 7 g,
-      ne_eqb n 8 i,
-      ne_eqb n 9 j,
+      ne_eqb n 8 h,
+      ne_eqb n 9 i,
     )
 
-pub no_question_reason : (n : ℕ) → Other n (Other n (Other n (Other n (Unit {0}) 10) 11) 12) 14 → question_reason n ≡ []
+pub no_question_reason : (n : ℕ) → n ≢ 10 → n ≢ 11 → n ≢ 12 → n ≢ 14 → question_reason n ≡ []
 unfolding question_reason
-no_question_reason n h =
-    let ((((_, a), b), c), d) = h in rw (ne_eqb n 10 a, ne_eqb n 11 b, ne_eqb n 12 c, ne_eqb n 14 d)
+no_question_reason n a b c d = rw (ne_eqb n 10 a, ne_eqb n 11 b, ne_eqb n 12 c, ne_eqb n 14 d)
 
 -- the place, by the number
 module _ (r : Refusal) where

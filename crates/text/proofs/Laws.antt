@@ -9,7 +9,7 @@ use native.Mathlib.Nat.{div-lt_self, div-lt_iff_lt-mul, add-zero, not-suc-le-zer
 use native.Mathlib.Decide.{dec_lt}
 use lib.Dec.{ltb}
 use lib.ListN.{length, take, drop, set, get_or, length-set, length-append, take-append-drop}
-use lib.Seq.{length-take-le, take_at, drop_at, drop-drop, set_split, take-suc, take_all}
+use lib.Seq.{length-take-le, take_at, drop_at, drop-drop, set_split, take-suc}
 use borrow.Author.Tests.{lt-ltb, le-ltb}
 use Rattle.text.specs.Text.{digits, decimal, spaced}
 use Rattle.text.specs.Inside.{Put}
@@ -88,19 +88,12 @@ pub put_one : (b : List ℕ) (at x : ℕ) → at < length b → Put b at (x ∷ 
 put_one b at x l =
     record { next = refl; fits = omega arith; size = length-set b at x; says = rw add-one (set_split b at x l) }
 
--- a loop that has put the first i characters
-pub put_begin : (b : List ℕ) (at : ℕ) → at ≤ length b → Put b at [] (at + 0) b
-put_begin b at l = rw add-zero (put_nothing b at l)
-
+-- a loop that puts one more character
 pub put_more : {b c : List ℕ} {at i : ℕ} (text : List ℕ) → Put b at (take i text) (at + i) c → i < length text
     → at + i < length c → Put b at (take (i + 1) text) (at + (i + 1)) (set c (at + i) (get_or text i 0))
 put_more {b} {c} {at} {i} text p l h =
     rw (add-one, take-suc text i 0 l, let z : at + suc i ≡ at + i + 1 = omega arith in z)
     (put_then p (put_one c (at + i) (get_or text i 0) h))
-
-pub put_end : {b c : List ℕ} {at i : ℕ} (text : List ℕ) → Put b at (take i text) (at + i) c → length text ≤ i
-    → Put b at text (at + i) c
-put_end {b} {c} {at} {i} text p l = rw (take_all i text l) at p
 
 -- a number below 10 to the power k + 1 has at most k + 1 digits
 decimal_limit : (k n : ℕ) → n < 10 ^ suc k → length (decimal n) ≤ suc k
@@ -124,7 +117,7 @@ spaced_append (n ∷ ns) ms =
     ap (λ l. 32 ∷ decimal n ++ l) (spaced_append ns ms)
     ∙ ap (λ l. 32 ∷ l) (sym (append_assoc (decimal n) (spaced ns) (spaced ms)))
 
--- a loop that has put the first i numbers
+-- a loop that puts one number after another
 pub spaced_begin : (b : List ℕ) (at : ℕ) → at ≤ length b → Put b at (spaced []) at b
 unfolding spaced
 spaced_begin b at l = put_nothing b at l
@@ -136,7 +129,3 @@ unfolding spaced
 spaced_more {at = at} {i = i} ns p q s l =
     rw (add-one, take-suc ns i 0 l, spaced_append (take i ns) (get_or ns i 0 ∷ []), append-nil (decimal (get_or ns i 0)))
     (put_then p (put_then q s))
-
-pub spaced_end : {b c : List ℕ} {at i r : ℕ} (ns : List ℕ) → Put b at (spaced (take i ns)) r c → length ns ≤ i
-    → Put b at (spaced ns) r c
-spaced_end {i = i} ns p l = rw (take_all i ns l) at p
