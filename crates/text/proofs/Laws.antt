@@ -127,5 +127,10 @@ pub spaced_more : {b c c1 c2 : List ℕ} {at i r r1 r2 : ℕ} (ns : List ℕ) �
     → Put b at (spaced (take (i + 1) ns)) r2 c2
 unfolding spaced
 spaced_more {at = at} {i = i} ns p q s l =
-    rw (add-one, take-suc ns i 0 l, spaced_append (take i ns) (get_or ns i 0 ∷ []), append-nil (decimal (get_or ns i 0)))
+    rw (
+      add-one,
+      take-suc ns i 0 l,
+      spaced_append (take i ns) (get_or ns i 0 ∷ []),
+      append-nil (decimal (get_or ns i 0)),
+    )
     (put_then p (put_then q s))
