@@ -1,0 +1,49 @@
+use Rattle.ask_words.proofs.Replies.{compared}
+use Rattle.ask_words.proofs.kind_of.Goals as goal
+
+pub returns-then-same : goal.returns-then-same
+returns-then-same c = rw (compared _ _ _ c.same.ensures c.if-same.true)
+
+pub returns-then-same-2 : goal.returns-then-same-2
+returns-then-same-2 c =
+    rw (
+      compared _ _ _ c.same.ensures c.if-same.false,
+      compared _ _ _ c.same-2.ensures c.if-same-2.true,
+    )
+
+pub returns-then-same-3 : goal.returns-then-same-3
+returns-then-same-3 c =
+    rw (
+      compared _ _ _ c.same.ensures c.if-same.false,
+      compared _ _ _ c.same-2.ensures c.if-same-2.false,
+      compared _ _ _ c.same-3.ensures c.if-same-3.true,
+    )
+
+pub returns-then-same-4 : goal.returns-then-same-4
+returns-then-same-4 c =
+    rw (
+      compared _ _ _ c.same.ensures c.if-same.false,
+      compared _ _ _ c.same-2.ensures c.if-same-2.false,
+      compared _ _ _ c.same-3.ensures c.if-same-3.false,
+      compared _ _ _ c.same-4.ensures c.if-same-4.true,
+    )
+
+pub returns-then-same-5 : goal.returns-then-same-5
+returns-then-same-5 c =
+    rw (
+      compared _ _ _ c.same.ensures c.if-same.false,
+      compared _ _ _ c.same-2.ensures c.if-same-2.false,
+      compared _ _ _ c.same-3.ensures c.if-same-3.false,
+      compared _ _ _ c.same-4.ensures c.if-same-4.false,
+      compared _ _ _ c.same-5.ensures c.if-same-5.true,
+    )
+
+pub returns : goal.returns
+returns c =
+    rw (
+      compared _ _ _ c.same.ensures c.if-same.false,
+      compared _ _ _ c.same-2.ensures c.if-same-2.false,
+      compared _ _ _ c.same-3.ensures c.if-same-3.false,
+      compared _ _ _ c.same-4.ensures c.if-same-4.false,
+      compared _ _ _ c.same-5.ensures c.if-same-5.false,
+    )
