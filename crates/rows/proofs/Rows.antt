@@ -95,11 +95,6 @@ module _ {m : Machine} (sizes : MachineSizes m) {s n : ℕ} where
             h.all.at j (omega arith) b));
       }
 
-pub laid_end : {m : Machine} {s n k : ℕ} {row rows : List ℕ} → RowsLaid m s n k row rows → k ≤ 0
-    → RowsLaid m s n 0 row rows
-laid_end {m} {s} {n} {k} {row} {rows} h l =
-    subst (λ i. RowsLaid m s n i row rows) (let z : k ≡ 0 = omega arith in z) h
-
 -- the largest figure of its first row is the request bound
 pub laid_top : {m : Machine} {s n states v : ℕ} {row rows : List ℕ} → MachineSizes m → RowsLaid m s n 0 row rows
     → states ≡ m.states → v ≡ most states (figure row) → v ≡ request m s n
