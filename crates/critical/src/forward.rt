@@ -30,7 +30,7 @@ pub(crate) fn trace(
 ) -> usize
     requires masked_window { MaskedWindow sheet.now entry from masks.now × (length pairs.old ≡ longest_words) }
     requires rows { Rows (machine_at sheet.now entry) from (length masks.now) 0 rows.now }
-    requires bound_value { bound ≡ request (machine_at sheet.now entry) from (length masks.now) }
+    requires is_bound { bound ≡ request (machine_at sheet.now entry) from (length masks.now) }
     ensures { Holds (masked_sequence sheet.now entry from masks.now) result
         pairs.new }
 {
@@ -71,7 +71,7 @@ fn first_making(
     later: &[u32],
 ) -> usize
     requires entry { IsEntry sheet.now entry × Ready (machine_at sheet.now entry) mask later.now }
-    requires in_bounds { 16 ≤ length later.now }
+    requires long { 16 ≤ length later.now }
     ensures { FirstMaking (machine_at sheet.now entry) mask leaves left later.now result }
 {
     let mut unseen = mask;

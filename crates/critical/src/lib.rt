@@ -25,9 +25,9 @@ pub const LONGEST_WORDS: usize = 2 * LONGEST_WINDOW as usize;
 // `words` two words a pair, the action and the instant; words beyond stay as they were. Or the
 // refusal: 1 to 11, and 12 where the pairs have no room in `words`, of which then every word stays.
 pub fn critical(sheet: &[u8], machine: u32, from: u32, to: u32, words: &mut [u32]) -> Answer
-    ensures result_value { paper result ≡ critical_reply sheet.now machine from to words.old }
-    ensures words_after { words.new ≡ critical_words sheet.now machine from to words.old }
-    ensures holds_critical { HoldsCritical (machine_of (decode sheet.now) machine) from to words.new result }
+    ensures says { paper result ≡ critical_reply sheet.now machine from to words.old }
+    ensures writes { words.new ≡ critical_words sheet.now machine from to words.old }
+    ensures promises { HoldsCritical (machine_of (decode sheet.now) machine) from to words.new result }
 {
     let rule = window::question_rule(sheet, machine, from as u64, to as u64);
     if let Rule::Broken(refusal) = rule {
@@ -55,7 +55,7 @@ pub fn sequence_of(
     pairs: &mut [u32],
 ) -> usize
     requires proper { Proper sheet.now machine from to }
-    requires rows_len { (length rows.old ≡ rows_size) × (length pairs.old ≡ longest_words) }
+    requires room { (length rows.old ≡ rows_size) × (length pairs.old ≡ longest_words) }
     ensures { Holds (sequence_of sheet.now machine from to) result pairs.new }
 {
     let entry = sheet::entry_of(sheet, machine);
@@ -74,7 +74,7 @@ fn masked_sequence(
     pairs: &mut [u32],
 ) -> usize
     requires masked_window { MaskedWindow sheet.now entry from masks.now }
-    requires rows_len { (length rows.old ≡ rows_size) × (length pairs.old ≡ longest_words) }
+    requires room { (length rows.old ≡ rows_size) × (length pairs.old ≡ longest_words) }
     ensures { Holds (masked_sequence sheet.now entry from masks.now) result
         pairs.new }
 {
