@@ -7,95 +7,83 @@ mod sequences;
 use draft::{
     Draft, action, cut, empty, entry, one, pair, pair_with, stay, trailer, two_actions, with_byte,
 };
-use libc::STDOUT_FILENO;
 use reply::{Answer, Refusal, Tabled};
+use std::io;
 
-pub(crate) fn text(words: &[u8]) {
-    io::write_all(STDOUT_FILENO, words);
+fn refused(rt: &impl Print, refusal: Refusal) -> io::Result<()> {
+    let number = refusal.number;
+    let first = refusal.first;
+    let second = refusal.second;
+    println!(rt; ": refused {number} {first} {second}")
 }
 
-fn number(value: u32) {
-    io::print_decimal(STDOUT_FILENO, value as u64);
-}
-
-fn refused(refusal: Refusal) {
-    text(b": refused ");
-    number(refusal.number);
-    text(b" ");
-    number(refusal.first);
-    text(b" ");
-    number(refusal.second);
-    text(b"\n");
-}
-
-pub(crate) fn answered(answer: Answer) {
+pub(crate) fn answered(rt: &impl Print, answer: Answer) -> io::Result<()> {
     match answer {
-        Answer::Value(value) => {
-            text(b": ");
-            number(value);
-            text(b"\n");
-        }
-        Answer::Refused(refusal) => refused(refusal),
+        Answer::Value(value) => println!(rt; ": {value}"),
+        Answer::Refused(refusal) => refused(rt, refusal),
     }
 }
 
-pub(crate) fn asked(what: &[u8], machine: u32, from: u32, to: u32) {
-    text(what);
-    text(b" machine ");
-    number(machine);
-    text(b" [");
-    number(from);
-    text(b",");
-    number(to);
-}
-
-fn request(what: &[u8], draft: Draft, machine: u32, from: u32, to: u32) {
-    text(b"request of ");
-    asked(what, machine, from, to);
-    text(b")");
+fn request(
+    rt: &impl Print,
+    what: &str,
+    draft: Draft,
+    machine: u32,
+    from: u32,
+    to: u32,
+) -> io::Result<()> {
+    print!(rt; "request of {what} machine {machine} [{from},{to})")?;
     let bytes = draft.bytes;
     let used = draft.used;
     let whole: &[u8] = &bytes;
     if used <= whole.len() {
         let answer = saglubitan::request(&whole[..used], machine, from, to);
-        answered(answer);
+        answered(rt, answer)?;
     }
+    Ok(())
 }
 
-fn demand(what: &[u8], draft: Draft, machine: u32, from: u32, to: u32) {
-    text(b"demand of ");
-    asked(what, machine, from, to);
-    text(b"]");
+fn demand(
+    rt: &impl Print,
+    what: &str,
+    draft: Draft,
+    machine: u32,
+    from: u32,
+    to: u32,
+) -> io::Result<()> {
+    print!(rt; "demand of {what} machine {machine} [{from},{to}]")?;
     let bytes = draft.bytes;
     let used = draft.used;
     let whole: &[u8] = &bytes;
     if used <= whole.len() {
         let answer = saglubitan::demand(&whole[..used], machine, from, to);
-        answered(answer);
+        answered(rt, answer)?;
     }
+    Ok(())
 }
 
-fn pair_requests() {
-    request(b"PAIR", pair(), 1, 80, 101);
-    request(b"PAIR", pair(), 1, 80, 121);
-    request(b"PAIR", pair(), 1, 0, 1);
-    request(b"PAIR", pair(), 1, 0, 40);
-    request(b"PAIR", pair(), 1, 1, 40);
-    request(b"PAIR", pair(), 2, 5, 4);
-    request(b"PAIR", pair(), 4294967295, 0, 1);
-    request(b"PAIR", pair(), 1, 7, 3);
-    request(b"PAIR", pair(), 1, 1000000, 1000001);
-    request(b"PAIR", pair(), 1, 1000000, 1000000);
-    request(b"PAIR", pair(), 1, 0, 2048);
-    request(b"PAIR", pair(), 1, 0, 2049);
-    request(b"PAIR", pair(), 0, 0, 200);
+fn pair_requests(rt: &impl Print) -> io::Result<()> {
+    request(rt, "PAIR", pair(), 1, 80, 101)?;
+    request(rt, "PAIR", pair(), 1, 80, 121)?;
+    request(rt, "PAIR", pair(), 1, 0, 1)?;
+    request(rt, "PAIR", pair(), 1, 0, 40)?;
+    request(rt, "PAIR", pair(), 1, 1, 40)?;
+    request(rt, "PAIR", pair(), 2, 5, 4)?;
+    request(rt, "PAIR", pair(), 4294967295, 0, 1)?;
+    request(rt, "PAIR", pair(), 1, 7, 3)?;
+    request(rt, "PAIR", pair(), 1, 1000000, 1000001)?;
+    request(rt, "PAIR", pair(), 1, 1000000, 1000000)?;
+    request(rt, "PAIR", pair(), 1, 0, 2048)?;
+    request(rt, "PAIR", pair(), 1, 0, 2049)?;
+    request(rt, "PAIR", pair(), 0, 0, 200)?;
     request(
-        b"PAIR with last byte 30,",
+        rt,
+        "PAIR with last byte 30,",
         with_byte(pair(), 67, 0x30),
         0,
         0,
         200,
-    );
+    )
 }
 
 // One machine of two states: the draft has its two actions.
@@ -103,99 +91,99 @@ pub(crate) fn two_states(actions: Draft) -> Draft {
     trailer(entry(actions, 2, 0, 2, 0), 16, 1)
 }
 
-fn state_requests() {
+fn state_requests(rt: &impl Print) -> io::Result<()> {
     request(
-        b"0 to 1 T1 C1 D1 and 0 to 0 T2 C2 D1,",
+        rt,
+        "0 to 1 T1 C1 D1 and 0 to 0 T2 C2 D1,",
         two_states(action(action(empty(), 0, 1, 1, 1, 1), 0, 0, 2, 2, 1)),
         0,
         1,
         3,
-    );
+    )?;
     request(
-        b"1 to 0 T2 C2 D1 and 1 to 1 T1 C2 D1,",
+        rt,
+        "1 to 0 T2 C2 D1 and 1 to 1 T1 C2 D1,",
         two_states(action(action(empty(), 1, 0, 2, 2, 1), 1, 1, 1, 2, 1)),
         0,
         0,
         2,
-    );
+    )
 }
 
-fn demands() {
-    demand(b"PAIR", pair(), 1, 0, 19);
-    demand(b"PAIR", pair(), 1, 0, 20);
-    demand(b"PAIR", pair(), 1, 1000000, 1000000);
-    demand(b"PAIR", pair(), 1, 7, 3);
+fn demands(rt: &impl Print) -> io::Result<()> {
+    demand(rt, "PAIR", pair(), 1, 0, 19)?;
+    demand(rt, "PAIR", pair(), 1, 0, 20)?;
+    demand(rt, "PAIR", pair(), 1, 1000000, 1000000)?;
+    demand(rt, "PAIR", pair(), 1, 7, 3)?;
     demand(
-        b"T2 C3 D1 and T2 C1 D2,",
+        rt,
+        "T2 C3 D1 and T2 C1 D2,",
         two_actions(stay(empty(), 2, 3, 1), 2, 1, 2),
         0,
         0,
         1,
-    );
-    demand(b"T4 C2 D1,", one(1, 0, 0, 4, 2, 1), 0, 0, 1);
-    demand(b"T2 C1 D2,", one(1, 0, 0, 2, 1, 2), 0, 0, 2);
+    )?;
+    demand(rt, "T4 C2 D1,", one(1, 0, 0, 4, 2, 1), 0, 0, 1)?;
+    demand(rt, "T2 C1 D2,", one(1, 0, 0, 2, 1, 2), 0, 0, 2)
 }
 
 // The lent words, on a line.
-pub(crate) fn lent(words: &[u32]) {
-    text(b"words");
-    let mut i = 0;
-    while i < words.len() {
-        text(b" ");
-        number(words[i]);
-        i += 1;
+pub(crate) fn lent(rt: &impl Print, words: &[u32]) -> io::Result<()> {
+    rt.print("words")?;
+    for word in words {
+        print!(rt; " {word}")?;
     }
-    text(b"\n");
+    rt.println("")
 }
 
-fn tabled(reply: Tabled) {
+fn tabled(rt: &impl Print, reply: Tabled) -> io::Result<()> {
     match reply {
-        Tabled::Filled => text(b": filled\n"),
-        Tabled::Refused(refusal) => refused(refusal),
+        Tabled::Filled => rt.println(": filled"),
+        Tabled::Refused(refusal) => refused(rt, refusal),
     }
 }
 
 // PAIR's table, and the words after the call.
-fn table(machine: u32, from: u32, length: u32, words: &mut [u32]) {
-    text(b"table of PAIR machine ");
-    number(machine);
-    text(b" from ");
-    number(from);
-    text(b" length ");
-    number(length);
+fn table(
+    rt: &impl Print,
+    machine: u32,
+    from: u32,
+    length: u32,
+    words: &mut [u32],
+) -> io::Result<()> {
+    print!(rt; "table of PAIR machine {machine} from {from} length {length}")?;
     let draft = pair();
     let bytes = draft.bytes;
     let used = draft.used;
     let whole: &[u8] = &bytes;
     if used <= whole.len() {
         let reply = saglubitan::table(&whole[..used], machine, from, length, words);
-        tabled(reply);
-        lent(words);
+        tabled(rt, reply)?;
+        lent(rt, words)?;
     }
+    Ok(())
 }
 
-fn long_tables() {
+fn long_tables(rt: &impl Print) -> io::Result<()> {
     let mut words = [7u32; 24];
-    table(1, 80, 21, &mut words);
+    table(rt, 1, 80, 21, &mut words)?;
     let mut few = [7u32; 21];
-    table(1, 80, 21, &mut few);
+    table(rt, 1, 80, 21, &mut few)?;
     let mut beyond = [7u32; 24];
-    table(2, 80, 21, &mut beyond);
+    table(rt, 2, 80, 21, &mut beyond)
 }
 
-fn short_tables() {
+fn short_tables(rt: &impl Print) -> io::Result<()> {
     let mut single = [7u32; 1];
-    table(1, 0, 1, &mut single);
+    table(rt, 1, 0, 1, &mut single)?;
     let mut nothing = [7u32; 0];
-    table(1, 0, 2049, &mut nothing);
+    table(rt, 1, 0, 2049, &mut nothing)?;
     let mut both = [7u32; 2];
-    table(1, 4294967295, 1, &mut both);
+    table(rt, 1, 4294967295, 1, &mut both)
 }
 
-fn fit(what: &[u8], draft: Draft) {
-    text(b"fit of ");
-    text(what);
-    text(b"\n");
+fn fit(rt: &impl Print, what: &str, draft: Draft) -> io::Result<()> {
+    println!(rt; "fit of {what}")?;
     let bytes = draft.bytes;
     let used = draft.used;
     let whole: &[u8] = &bytes;
@@ -205,9 +193,10 @@ fn fit(what: &[u8], draft: Draft) {
         let length = printed.length;
         let made: &[u8] = &out;
         if length <= made.len() {
-            text(&made[..length]);
+            rt.write_all(&made[..length])?;
         }
     }
+    Ok(())
 }
 
 // How many bytes, up to the first one written, are still as they were lent.
@@ -223,8 +212,8 @@ fn kept(bytes: &[u8]) -> usize {
 }
 
 // Too few bytes lent: the length of the text, and how many bytes are left as they were.
-fn short_fit() {
-    text(b"fit of PAIR in 511 bytes: ");
+fn short_fit(rt: &impl Print) -> io::Result<()> {
+    rt.print("fit of PAIR in 511 bytes: ")?;
     let draft = pair();
     let bytes = draft.bytes;
     let used = draft.used;
@@ -233,31 +222,31 @@ fn short_fit() {
         let mut out = [7u8; 511];
         let printed = saglubitan::fit(&whole[..used], &mut out);
         let length = printed.length;
-        io::print_decimal(STDOUT_FILENO, length as u64);
-        text(b", bytes kept: ");
-        io::print_decimal(STDOUT_FILENO, kept(&out) as u64);
+        let kept = kept(&out);
+        print!(rt; "{length}, bytes kept: {kept}")?;
     }
-    text(b"\n");
+    rt.println("")
 }
 
-fn fits() {
+fn fits(rt: &impl Print) -> io::Result<()> {
     let actions = stay(stay(stay(empty(), 6, 1, 1), 4, 1, 1), 4, 3, 4);
     fit(
-        b"T6 C1 D1 and T4 C1 D1 beside T4 C3 D4",
+        rt,
+        "T6 C1 D1 and T4 C1 D1 beside T4 C3 D4",
         trailer(entry(entry(actions, 1, 0, 2, 0), 1, 0, 1, 16), 24, 2),
-    );
-    fit(b"PAIR with time 15 in machine 0", pair_with(15, 20));
-    fit(b"PAIR with last byte 30", with_byte(pair(), 67, 0x30));
-    fit(b"2125 bytes, all zero", cut(empty(), 2125));
-    short_fit();
+    )?;
+    fit(rt, "PAIR with time 15 in machine 0", pair_with(15, 20))?;
+    fit(rt, "PAIR with last byte 30", with_byte(pair(), 67, 0x30))?;
+    fit(rt, "2125 bytes, all zero", cut(empty(), 2125))?;
+    short_fit(rt)
 }
 
-fn main() {
-    pair_requests();
-    state_requests();
-    demands();
-    long_tables();
-    short_tables();
-    sequences::sequences();
-    fits();
+fn main(rt: HostRuntime) -> io::Result<()> {
+    pair_requests(&rt)?;
+    state_requests(&rt)?;
+    demands(&rt)?;
+    long_tables(&rt)?;
+    short_tables(&rt)?;
+    sequences::sequences(&rt)?;
+    fits(&rt)
 }

@@ -4,23 +4,24 @@
 
 use terminal::Input;
 
-fn main() {
-    if 1 < os::arg_count() {
-        terminal::say(b"usage: fit < SHEET\n");
+fn main(rt: HostRuntime) {
+    if terminal::has_word(&rt, 1) {
+        terminal::say(&mut rt.stderr(), b"usage: fit < SHEET\n");
         return;
     }
     let mut bytes = terminal::sheet_room();
-    let input = terminal::read_sheet(&mut bytes);
+    let input = terminal::read_sheet(&mut rt.stdin(), &mut bytes);
     match input {
-        Input::Bytes(used) => print(&bytes[..used]),
-        Input::Failed => terminal::say(b"fit: cannot read standard input\n"),
+        Input::Bytes(used) => print(&rt, &bytes[..used]),
+        Input::Failed => terminal::say(&mut rt.stderr(), b"fit: cannot read standard input\n"),
     }
 }
 
-fn print(sheet: &[u8]) {
+fn print(rt: &HostRuntime, sheet: &[u8]) {
     let mut out = [0u8; 512];
     let printed = saglubitan::fit(sheet, &mut out);
     let length = printed.length;
-    terminal::print(&out[..length], b"fit: cannot write standard output\n");
-    terminal::say_refusal(b"fit", printed.refusal);
+    let failure = b"fit: cannot write standard output\n";
+    terminal::print(&mut rt.stdout(), &mut rt.stderr(), &out[..length], failure);
+    terminal::say_refusal(&mut rt.stderr(), b"fit", printed.refusal);
 }

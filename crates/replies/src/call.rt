@@ -4,8 +4,8 @@
 ghost use Rattle.std.specs.Prelude.{◌≡◌, ◌≤◌, length};
 
 use crate::{replied, words};
-use libc::STDIN_FILENO;
 use number::read_le32;
+use std::io::{Read, Write};
 
 #[derive(Clone, Copy)]
 pub(crate) struct Call {
@@ -17,11 +17,17 @@ pub(crate) struct Call {
 
 // Reads the next call and writes its reply. False where there is none: the input ends, no call has the
 // number, or more is lent or sent than there is room for; and where nothing more can be written.
-pub(crate) fn answer_next(room: &mut [u8], words: &mut [u32], bytes: &mut [u8]) -> bool
+pub(crate) fn answer_next<R: Read, W: Write>(
+    input: &mut R,
+    output: &mut W,
+    room: &mut [u8],
+    words: &mut [u32],
+    bytes: &mut [u8],
+) -> bool
     requires { (length room.old ≡ 4096) × (length words.old ≡ 4128) × (length bytes.old ≡ 16536) }
 {
     let mut head = [0u8; 24];
-    if io::read_full(STDIN_FILENO, &mut head) < 24 {
+    if input.read_exact(&mut head).is_err() {
         return false;
     }
     let lent = read_le32(&head, 16) as usize;
@@ -32,12 +38,12 @@ pub(crate) fn answer_next(room: &mut [u8], words: &mut [u32], bytes: &mut [u8]) 
     if 4096 < size {
         return false;
     }
-    if io::read_full(STDIN_FILENO, &mut room[..size]) < size {
+    if input.read_exact(&mut room[..size]).is_err() {
         return false;
     }
     let call = call_in(&head);
     let used = lent + 2 * words::GUARDS;
-    answer(call, &room[..size], &mut words[..used], bytes)
+    answer(output, call, &room[..size], &mut words[..used], bytes)
 }
 
 fn call_in(head: &[u8; 24]) -> Call {
@@ -50,7 +56,13 @@ fn call_in(head: &[u8; 24]) -> Call {
 }
 
 // Answers a call, which may be lent the words between the guards.
-fn answer(call: Call, sheet: &[u8], words: &mut [u32], bytes: &mut [u8]) -> bool
+fn answer<W: Write>(
+    output: &mut W,
+    call: Call,
+    sheet: &[u8],
+    words: &mut [u32],
+    bytes: &mut [u8],
+) -> bool
     requires { (16 ≤ length words.old) × (length words.old ≤ 4128) × (length bytes.old ≡ 16536) }
 {
     let number = call.number;
@@ -58,10 +70,10 @@ fn answer(call: Call, sheet: &[u8], words: &mut [u32], bytes: &mut [u8]) -> bool
         return false;
     }
     if number == 3 {
-        return words::answer_in_words(call, sheet, words, bytes);
+        return words::answer_in_words(output, call, sheet, words, bytes);
     }
     if number == 4 {
-        return words::answer_in_words(call, sheet, words, bytes);
+        return words::answer_in_words(output, call, sheet, words, bytes);
     }
-    words::write_reply(replied::reply(call, sheet))
+    words::write_reply(output, replied::reply(call, sheet))
 }

@@ -8,12 +8,14 @@ mod call;
 mod replied;
 mod words;
 
-use libc::STDIN_FILENO;
 use number::read_le32;
+use std::io::Read;
 
-fn main() {
+fn main(rt: HostRuntime) {
+    let mut input = rt.stdin();
+    let mut output = rt.stdout();
     let mut first = [0u8; 4];
-    if io::read_full(STDIN_FILENO, &mut first) < 4 {
+    if input.read_exact(&mut first).is_err() {
         return;
     }
     let calls = read_le32(&first, 0);
@@ -23,7 +25,7 @@ fn main() {
     let mut bytes = [0u8; 24 + 4 * 4128];
     let mut answered = 0;
     while answered < calls {
-        if !call::answer_next(&mut sheet, &mut words, &mut bytes) {
+        if !call::answer_next(&mut input, &mut output, &mut sheet, &mut words, &mut bytes) {
             return;
         }
         answered += 1;

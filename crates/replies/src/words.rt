@@ -1,23 +1,29 @@
-// Words that are lent to a call, between guards, and words as bytes on standard output.
+// Words that are lent to a call, between guards, and words as bytes that are written.
 ghost use Rattle.std.specs.Prelude.{◌≡◌, ◌+◌, ◌*◌, ◌≤◌, length};
 
 use crate::call::Call;
 use crate::replied;
 use crate::replied::Reply;
-use libc::STDOUT_FILENO;
+use std::io::Write;
 
 // How many words stand before the lent ones, and how many after them.
 pub(crate) const GUARDS: usize = 8;
 
 // Writes a reply.
-pub(crate) fn write_reply(reply: Reply) -> bool {
+pub(crate) fn write_reply<W: Write>(output: &mut W, reply: Reply) -> bool {
     let mut bytes = [0u8; 24];
     put_words(&reply, &mut bytes);
-    io::write_all(STDOUT_FILENO, &bytes)
+    write_whole(output, &bytes)
 }
 
 // Answers a call that is lent the words between the guards; writes the reply, and all words after the call.
-pub(crate) fn answer_in_words(call: Call, sheet: &[u8], words: &mut [u32], bytes: &mut [u8]) -> bool
+pub(crate) fn answer_in_words<W: Write>(
+    output: &mut W,
+    call: Call,
+    sheet: &[u8],
+    words: &mut [u32],
+    bytes: &mut [u8],
+) -> bool
     requires { (16 ≤ length words.old) × (length words.old ≤ 4128) × (length bytes.old ≡ 16536) }
 {
     guard(words);
@@ -26,7 +32,12 @@ pub(crate) fn answer_in_words(call: Call, sheet: &[u8], words: &mut [u32], bytes
     let used = 24 + 4 * words.len();
     put_words(&reply, &mut bytes[..24]);
     put_words(words, &mut bytes[24..used]);
-    io::write_all(STDOUT_FILENO, &bytes[..used])
+    write_whole(output, &bytes[..used])
+}
+
+// Writes the bytes, and whatever the writer keeps back; false where either fails.
+fn write_whole<W: Write>(output: &mut W, bytes: &[u8]) -> bool {
+    output.write_all(bytes).is_ok() && output.flush().is_ok()
 }
 
 // Gives each word a value that tells its place, and that no call writes.
