@@ -1,6 +1,6 @@
 -- What the contracts of the programs' own functions cite, and no reader has to believe.
 use Rattle.std.specs.Prelude.{ℕ, List}
-use Rattle.io.specs.Counts.{IsPrefixLen}
+use Rattle.std.specs.Counts.{IsPrefixLen}
 use Rattle.terminal.specs.declared.Input.{Input}
 use Rattle.terminal.specs.declared.Input.TheVariants.{Bytes, Failed}
 

@@ -2,9 +2,9 @@
 // written; the gate runs it.
 #![tactic(auto)]
 
-ghost use Rattle.std.specs.Prelude.{◌≡◌, length};
+ghost use Rattle.std.specs.Prelude.{◌≡◌, ◌≤◌, length};
+ghost use Rattle.std.specs.Counts.{IsPrefixLen};
 ghost use Rattle.terminal.specs.Inside.{LiesIn};
-ghost use Rattle.io.specs.Counts.{IsPrefixLen};
 
 use reply::Refusal;
 use std::env::FillError;
@@ -103,7 +103,9 @@ pub fn has_word(words: &impl Env, at: usize) -> bool {
 }
 
 // How many words the command line has, with the program's own, up to `most`.
-pub fn word_count(words: &impl Env, most: usize) -> usize {
+pub fn word_count(words: &impl Env, most: usize) -> usize
+    ensures { result ≤ most }
+{
     let mut count = 0;
     while count < most {
         if !has_word(words, count) {
