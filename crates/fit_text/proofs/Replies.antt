@@ -7,7 +7,7 @@ use native.Mathlib.Omega.{arith}
 use native.Mathlib.Numerals.{add-one}
 use lib.ListN.{length}
 use Rattle.model.specs.Limits.{longest_hyperperiod}
-use Rattle.model.specs.Machine.{count, machine_of, hyperperiod}
+use Rattle.model.specs.Machine.{count, machine_of}
 use Rattle.model.specs.Reckon.{request}
 use Rattle.model.specs.Verdict.{Judgement, verdict}
 use Rattle.reply.specs.declared.Refusal.{Refusal}
