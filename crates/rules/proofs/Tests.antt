@@ -9,9 +9,8 @@ use native.Mathlib.Numerals.{add-one}
 use lib.Dec.{leb, ltb, eqb}
 use lib.ListN.{length, take, drop, length-drop}
 use lib.Seq.{take_all}
-use borrow.Author.Tests.{leb-true, eqb-true, eq-eqb, ne_eqb}
-use Rattle.model.specs.Limits.{longest_period, longest_time}
-use Rattle.model.specs.Machine.{Action, Machine, count, machine_of, divisor}
+use borrow.Author.Tests.{leb-true, eqb-true, eq-eqb}
+use Rattle.model.specs.Machine.{Machine, count, machine_of}
 use Rattle.model.specs.Sizes.{Between}
 use Rattle.model.proofs.Tests.{both_true, test_same}
 use Rattle.reply.specs.Reply.{refusal}
@@ -19,7 +18,6 @@ use Rattle.reply.proofs.Refusals.{equal_broken, equal_kept}
 use Rattle.sheet.specs.Format.{actions_before, action_size, entry, trailer_offset, machine_count, last_four, sfs1, decode}
 use Rattle.sheet.proofs.Decode.{decode_machine, decode_actions}
 use Rattle.rules.specs.Rules.{between, same, entry_in_range, end_refusal}
-use Rattle.rules.specs.Inside.{keeps}
 
 pub between_true : (low high n : ℕ) → between low high n ≡ true → Between low high n
 between_true low high n e =
@@ -84,19 +82,3 @@ module _ (b : List ℕ) {machines k begin t : ℕ} (counted : machines ≡ machi
 
   pub end_kept : begin ≡ t → end_refusal b (machine_count b) ≡ none
   end_kept e = equal_kept _ _ _ (sym trailer ∙ sym e ∙ at_end)
-
--- an action's tests, by the fields that are read of it
-module _ (m : Machine) (a : Action) {rule : ℕ} where
-  pub seven_test : {s x y p t e : ℕ} {in_p in-t : Bool} → rule ≡ 7 → s ≡ m.states → x ≡ a.source → y ≡ a.sink
-      → p ≡ a.period → in_p ≡ between 1 longest_period p → t ≡ a.time → in-t ≡ between 1 longest_time t
-      → e ≡ a.deadline → ltb x s && ltb y s && in_p && in-t && leb 1 e ≡ keeps rule m a
-  seven_test seven hs hx hy hp kp ht kt he =
-      ap₂ ◌&&◌
-      (ap₂ ◌&&◌
-      (ap₂ ◌&&◌ (ap₂ ◌&&◌ (ap₂ ltb hx hs) (ap₂ ltb hy hs)) (kp ∙ ap (between 1 longest_period) hp))
-      (kt ∙ ap (between 1 longest_time) ht))
-      (ap (leb 1) he)
-      ∙ sym (rw (eq-eqb rule 7 seven) refl)
-
-  pub eight_test : {d e : ℕ} → (rule ≡ 7 → ⊥) → d ≡ divisor m → e ≡ a.deadline → leb e d ≡ keeps rule m a
-  eight_test other hd he = ap₂ leb he hd ∙ sym (rw (ne_eqb rule 7 other) refl)
