@@ -33,7 +33,8 @@ module _ (b : List ℕ) where
         machines = between_true 1 8 (machine_count b) (unless_none _ _ three);
         placed =
             eqb-true (trailer_offset b + (12 + entry_size * machine_count b)) (length b)
-            (both_true (leb (12 + entry_size * machine_count b) (length b)) _ (unless_none (trailer_in_range b) _ four)).1;
+            (both_true (leb (12 + entry_size * machine_count b) (length b)) _
+            (unless_none (trailer_in_range b) _ four)).1;
       }
 
   entry_kept : rule5 b ≡ none → (k : ℕ) → k < machine_count b → entry_in_range (entry b k) ≡ true
@@ -63,7 +64,8 @@ module _ (b : List ℕ) where
   before_rises k (suc more) =
       rw (let z : suc more + k ≡ suc (more + k) = omega arith in z) (omega (arith, before_rises k more))
 
-  before_next : (k : ℕ) → k < machine_count b → actions_before b k + (entry b k).actions ≤ actions_before b (machine_count b)
+  before_next : (k : ℕ) → k < machine_count b
+      → actions_before b k + (entry b k).actions ≤ actions_before b (machine_count b)
   unfolding actions_before
   before_next k known =
       rw (let z : machine_count b ≡ (machine_count b - suc k) + suc k = omega arith in z)
@@ -88,7 +90,8 @@ module _ (b : List ℕ) where
       offset k known =
           eqb-true (entry b k).offset (action_size * actions_before b k)
           (unless_none _ (refusal 6 k 0) (first_none (offset_refusal b) (machine_count b)
-          (or_else_none (first_of (offset_refusal b) 0 (machine_count b)) (end_refusal b (machine_count b)) six).0 k known))
+          (or_else_none (first_of (offset_refusal b) 0 (machine_count b)) (end_refusal b (machine_count b)) six).0
+          k known))
 
   -- where no action of any machine fails a test
   all_keep : (test : Machine → Action → Bool) (n : ℕ) → first_of (machine_refusal test n b) 0 (machine_count b) ≡ none

@@ -15,7 +15,8 @@ use Rattle.model.specs.Sizes.{Between}
 use Rattle.model.proofs.Tests.{both_true, test_same}
 use Rattle.reply.specs.Reply.{refusal}
 use Rattle.reply.proofs.Refusals.{equal_broken, equal_kept}
-use Rattle.sheet.specs.Format.{actions_before, action_size, entry, trailer_offset, machine_count, last_four, sfs1, decode}
+use Rattle.sheet.specs.Format.{actions_before, action_size, entry}
+use Rattle.sheet.specs.Format.{trailer_offset, machine_count, last_four, sfs1, decode}
 use Rattle.sheet.proofs.Decode.{decode_machine, decode_actions}
 use Rattle.rules.specs.Rules.{between, same, entry_in_range, end_refusal}
 
@@ -54,7 +55,8 @@ sfs1_same b r l h =
 
 -- an entry's test, by the fields that are read of it
 module _ (b : List ℕ) (k : ℕ) (known : k < machine_count b) where
-  pub entry_test : (s i a z : ℕ) (p q : Bool) → s ≡ (machine_of (decode b) k).states → i ≡ (machine_of (decode b) k).initial
+  pub entry_test : (s i a z : ℕ) (p q : Bool)
+      → s ≡ (machine_of (decode b) k).states → i ≡ (machine_of (decode b) k).initial
       → a ≡ count (machine_of (decode b) k) → z ≡ (entry b k).zero_byte → p ≡ between 1 16 s → q ≡ between 1 32 a
       → p && ltb i s && q && eqb z 0 ≡ entry_in_range (entry b k)
   entry_test s i a z p q es ei ea ez ep eq =

@@ -31,7 +31,8 @@ module _ (b : List ℕ) (i s f : ℕ) where
 
   in_sheet : refusal_of b ≡ none → i < machine_count b → question_refusal b i s f ≡ rule11 s f
   unfolding question_refusal
-  in_sheet e l = or_else_clear _ e ∙ or_else_clear _ (ap (λ t. unless t (refusal 10 0 0)) (lt-ltb i (machine_count b) l))
+  in_sheet e l =
+      or_else_clear _ e ∙ or_else_clear _ (ap (λ t. unless t (refusal 10 0 0)) (lt-ltb i (machine_count b) l))
 
   pub question_window : refusal_of b ≡ none → i < machine_count b → window_in_range s f ≡ false
       → question_refusal b i s f ≡ some (refusal 11 0 0)
