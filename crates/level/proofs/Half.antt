@@ -22,7 +22,7 @@ use Rattle.walk.specs.Inside.{Last}
 use Rattle.walk.proofs.Front.{last_none, last_instant}
 use Rattle.level.specs.declared.Progress.{Progress}
 use Rattle.level.specs.declared.Level.{Level}
-use Rattle.level.specs.Inside.{ProgressAt, Standing, Moved, blank, progress_of, stride, Phase, LevelAt}
+use Rattle.level.specs.Inside.{ProgressAt, Moved, blank, progress_of, stride, Phase, LevelAt}
 use Rattle.level.specs.Inside.{BeforeTick, LevelMoved}
 
 pub record HalfAt (b : List ℕ) (i s n j : ℕ) (progress : List Progress) : Type 0 where
@@ -46,7 +46,15 @@ pub unmoved_begin : {level : Level} → Unmoved level level
 unmoved_begin = record { row = refl; mask = refl; last = refl }
 
 pub unmoved_progress : {old new : Level} {progress : List Progress} → Unmoved old new
-    → Unmoved old (record { progress = progress; above = new.above; own = new.own; row = new.row; mask = new.mask; last = new.last })
+    → Unmoved old
+    (record {
+      progress = progress;
+      above = new.above;
+      own = new.own;
+      row = new.row;
+      mask = new.mask;
+      last = new.last;
+    })
 unmoved_progress h = record { row = h.row; mask = h.mask; last = h.last }
 
 -- the request of a machine, and of a few machines, over a window that is in range
@@ -91,17 +99,6 @@ module _ {b masks : List ℕ} {phase i n : ℕ} {old : Level} where
 
     module _ {j : ℕ} {progress : List Progress} {above : ℕ} (h : HalfMoved b masks phase i n old j progress above)
         (l : j ≤ i) where
-      -- machine j's progress stands before the tick
-      pub half_standing : Standing (machine_of (decode b) j) (get_or masks (stride * j + phase) 0) (progress_of progress j)
-      half_standing =
-          record {
-            start = t.start;
-            ticks = n;
-            near = t.near;
-            marks = t.marked.at j (omega (arith, t.known));
-            stands = (h.on t.start t.marked t.stands).stands j (omega arith) l;
-          }
-
       pub half_small : above ≤ 7 * largest_request
       half_small =
           omega (

@@ -147,7 +147,8 @@ module _ {b masks lowest : List ℕ} {h : ℕ} (marked : MaskedSheet b masks low
 
           requests_idle : (j : ℕ) → j ≤ i → requests (decode b) j s n ≡ requests (decode b) j s (n + 1)
           requests_idle j u =
-              added_cong j (λ k. request (machine_of (decode b) k) s n) (λ k. request (machine_of (decode b) k) s (n + 1))
+              added_cong j (λ k. request (machine_of (decode b) k) s n)
+              (λ k. request (machine_of (decode b) k) s (n + 1))
               (λ k c. request_idle k (omega arith))
 
     -- what length n + 1 says, of a level that has come to it
@@ -189,7 +190,8 @@ module _ {b masks lowest : List ℕ} {h : ℕ} (marked : MaskedSheet b masks low
             → some (Late i s (n + 1) d) ≡ gives (decode b) i s
         length_late d e l =
             let f : d ≡ demand (machine_of (decode b) i) s (suc n) = rw (add-one n) at e in
-            let m : slack (decode b) i s (suc n) < demand (machine_of (decode b) i) s (suc n) = rw (add-one n, f) at l in
+            let m : slack (decode b) i s (suc n) < demand (machine_of (decode b) i) s (suc n) =
+            rw (add-one n, f) at l in
             rw (add-one n)
             (ap (λ x. some (Late i s (suc n) x)) f
             ∙ sym (scan_late (decode b) i s (suc n) (longest_window - suc n) not_closed
@@ -225,7 +227,12 @@ module _ {b masks lowest : List ℕ} {h : ℕ} (marked : MaskedSheet b masks low
           walked_next l =
               let m : demand (machine_of (decode b) i) s (suc n) ≤ room = rw (add-one n) at l in
               rw (add-one n)
-              (record { stands = at; roomy = room_next; placed = after_phase; left = passed (omega (arith, room_next)) })
+              (record {
+                stands = at;
+                roomy = room_next;
+                placed = after_phase;
+                left = passed (omega (arith, room_next));
+              })
 
           -- a demand is at most the request
           pub walked_light : level.own ≤ room → Walked b i s h (n + 1) level room after

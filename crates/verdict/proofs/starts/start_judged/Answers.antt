@@ -32,7 +32,7 @@ loop-n-init c =
 pub level_moved-moved-requires : goal.level_moved-moved-requires
 level_moved-moved-requires c =
     let (marked, known, early) = c.requires in
-    walked_before marked known c.loop-n.invariant.1 c.loop-n-test.true
+    walked_before marked known c.loop-n.invariant.1 (omega arith)
 
 pub overflow_add-level : goal.overflow_add-level
 overflow_add-level c =
@@ -107,4 +107,4 @@ loop-n-preserved c =
 pub returns : goal.returns
 returns c =
     let (marked, known, early) = c.requires in
-    walked_open marked known c.loop-n.invariant.1 c.loop-n-test.false c.loop-n.invariant.0
+    walked_open marked known c.loop-n.invariant.1 (omega arith) (omega arith)
