@@ -17,7 +17,7 @@ use Rattle.model.specs.Critical.{is_making}
 use Rattle.model.proofs.Tests.{true_or_false, both_true}
 use Rattle.model.proofs.Names.{closed_inside, closed_onward}
 use Rattle.walk.specs.Inside.{Marks, brought}
-use Rattle.walk.proofs.Mask.{Unseen, unseen_begin, unseen_one, unseen_other, unseen_next}
+use Rattle.walk.proofs.Mask.{Unseen, unseen_one, unseen_other, unseen_next}
 use Rattle.walk.proofs.Binary.{left_none}
 use Rattle.critical.specs.declared.forward.Leaves.{Leaves}
 use Rattle.critical.specs.declared.forward.Leaves.TheVariants.{Any, State}
@@ -29,9 +29,6 @@ pub record Seeking (m : Machine) (mask : ℕ) (leaves : Leaves) (left : ℕ) (la
   pub none : (t : ℕ) → Marks m t mask → (k : ℕ) → k < j → makes_at m t leaves left later k ≡ false
 
 module _ {m : Machine} {mask : ℕ} {leaves : Leaves} {left : ℕ} {later : List ℕ} where
-  pub seeking_begin : Seeking m mask leaves left later 0 mask
-  seeking_begin = record { others = unseen_begin; none = λ t g k l. absurd (omega arith) }
-
   module _ {j unseen : ℕ} (h : Seeking m mask leaves left later j unseen) (known : j < count m) where
     seeking_next : ((t : ℕ) → Marks m t mask → makes_at m t leaves left later j ≡ false)
         → Seeking m mask leaves left later (j + 1) (unseen / 2)

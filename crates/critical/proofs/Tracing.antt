@@ -126,9 +126,6 @@ module _ {m : Machine} (closed : Closed m) {s n k mask left number j : ℕ} {lea
         eqb-true _ _ (both_true (is_open m (allows m leaves) (pair j (s + k))) _ made).1 in
         omega (arith, goal_is)
 
-    pub cost_left : own ≤ left
-    cost_left = omega (arith, parts)
-
     -- a sequence may begin in its sink
     sink_begins : may_begin m sink ≡ true
     sink_begins =
