@@ -86,7 +86,8 @@ module _ {m : Machine} (closed : Closed m) {t n left : ℕ} (leaves : Leaves) {l
   allowed Any b = sym b
   allowed (State p) b = refl
 
-  makes_now : may_trigger m t j ≡ true → makes_at m t leaves left later j ≡ is_making m (requested m) t n (allows m leaves) j
+  makes_now : may_trigger m t j ≡ true
+      → makes_at m t leaves left later j ≡ is_making m (requested m) t n (allows m leaves) j
   unfolding source follows
   makes_now o =
       let (b, i) = both_true (may_begin m source) _ o in
@@ -97,7 +98,8 @@ module _ {m : Machine} (closed : Closed m) {t n left : ℕ} (leaves : Leaves) {l
       ∙ ap₂ ◌&&◌ (allowed leaves b ∙ sym (ap (λ x. allows m leaves source && x) i ∙ and-true (allows m leaves source)))
       (ap₂ eqb (let z : brought Back m j later ≡ requested m (pair j t) + follows = omega (arith, sink) in z) goal)
 
-  makes_not : may_trigger m t j ≡ false → makes_at m t leaves left later j ≡ is_making m (requested m) t n (allows m leaves) j
+  makes_not : may_trigger m t j ≡ false
+      → makes_at m t leaves left later j ≡ is_making m (requested m) t n (allows m leaves) j
   unfolding source follows
   makes_not o =
       ap (λ x. x && makes_up m leaves left later j) o

@@ -38,8 +38,8 @@ pub record Tracing (m : Machine) (s n k : ℕ) (leaves : Leaves) (left number : 
   pub goal : left ≡ best m (requested m) (s + k) (n - k) (allows m leaves)
   pub words : take (2 * number) pairs ++ onward m (s + k) (n - k) leaves ≡ words_of (critical m s n)
 
-pub tracing_begin : {m : Machine} {s n bound : ℕ} {pairs : List ℕ} → length pairs ≡ longest_words → bound ≡ request m s n
-    → Tracing m s n 0 Any bound 0 pairs
+pub tracing_begin : {m : Machine} {s n bound : ℕ} {pairs : List ℕ} → length pairs ≡ longest_words
+    → bound ≡ request m s n → Tracing m s n 0 Any bound 0 pairs
 unfolding critical request
 tracing_begin {s = s} {n = n} long e =
     let start : s + 0 ≡ s = omega arith in

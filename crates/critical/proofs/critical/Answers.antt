@@ -31,14 +31,16 @@ overflow_mul-needed c =
 pub returns-then-words-needed-clause-says : goal.returns-then-words-needed-clause-says
 returns-then-words-needed-clause-says c =
     let kept = sym c.question_rule-rule.ensures ∙ ap paper c.in_default.is in
-    let short : length c.args.words.now < 2 * length (sequence_of c.args.sheet.now c.args.machine c.args.from c.args.to) =
+    let short : length c.args.words.now
+    < 2 * length (sequence_of c.args.sheet.now c.args.machine c.args.from c.args.to) =
     omega (arith, c.sequence_of-number.ensures.number) in
     ap refused c.placeless.ensures ∙ (critical_refused _ _ _ _ _ (refusal_short _ _ _ _ _ kept short)).0
 
 pub returns-then-words-needed-clause-writes : goal.returns-then-words-needed-clause-writes
 returns-then-words-needed-clause-writes c =
     let kept = sym c.question_rule-rule.ensures ∙ ap paper c.in_default.is in
-    let short : length c.args.words.now < 2 * length (sequence_of c.args.sheet.now c.args.machine c.args.from c.args.to) =
+    let short : length c.args.words.now
+    < 2 * length (sequence_of c.args.sheet.now c.args.machine c.args.from c.args.to) =
     omega (arith, c.sequence_of-number.ensures.number) in
     (critical_refused _ _ _ _ _ (refusal_short _ _ _ _ _ kept short)).1.0
 
