@@ -79,7 +79,7 @@ plain_agrees_request b i s f r q l e g =
     let same : plain_refusal b i s f ≡ question_refusal b i s f = rw (few, or_else_nothing _) refl in
     answer_unique r q (rw same at e) g
 
-module _ {m : Machine} {s f v : ℕ} (bound : IsRequestBound m s f v) where
+module _ (m : Machine) {s f v : ℕ} (bound : IsRequestBound m s f v) where
   pub plain_agrees_row : {n : ℕ} {row : List ℕ} → s + n ≡ f → Closed m → IsRow m (requested m) s n row
       → v ≡ most m.states (figure row)
   plain_agrees_row {n} {row} e closed h =

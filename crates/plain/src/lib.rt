@@ -17,8 +17,8 @@ use reply::{Answer, Rule};
 
 // The request bound of [from, to) of a machine; 14 where the window holds more than 6 instants.
 pub fn plain(sheet: &[u8], machine: u32, from: u32, to: u32) -> Answer
-    ensures result_value { paper result ≡ plain_reply sheet.now machine from to }
-    ensures figure { Figure (IsRequestBound (machine_of (decode sheet.now) machine) from to) result }
+    ensures says { paper result ≡ plain_reply sheet.now machine from to }
+    ensures promises { Figure (IsRequestBound (machine_of (decode sheet.now) machine) from to) result }
 {
     let rule = window::question_rule(sheet, machine, from as u64, to as u64);
     if let Rule::Broken(refusal) = rule {
