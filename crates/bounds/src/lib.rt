@@ -22,8 +22,8 @@ use sheet::Entry;
 
 // The request bound of [from, to) of a machine.
 pub fn request(sheet: &[u8], machine: u32, from: u32, to: u32) -> Answer
-    ensures result_value { paper result ≡ request_reply sheet.now machine from to }
-    ensures figure { Figure (IsRequestBound (machine_of (decode sheet.now) machine) from to) result }
+    ensures says { paper result ≡ request_reply sheet.now machine from to }
+    ensures promises { Figure (IsRequestBound (machine_of (decode sheet.now) machine) from to) result }
 {
     let rule = window::question_rule(sheet, machine, from as u64, to as u64);
     if let Rule::Broken(refusal) = rule {
@@ -34,8 +34,8 @@ pub fn request(sheet: &[u8], machine: u32, from: u32, to: u32) -> Answer
 
 // The demand bound of [from, to] of a machine.
 pub fn demand(sheet: &[u8], machine: u32, from: u32, to: u32) -> Answer
-    ensures result_value { paper result ≡ demand_reply sheet.now machine from to }
-    ensures figure { Figure (IsDemandBound (machine_of (decode sheet.now) machine) from to) result }
+    ensures says { paper result ≡ demand_reply sheet.now machine from to }
+    ensures promises { Figure (IsDemandBound (machine_of (decode sheet.now) machine) from to) result }
 {
     let rule = window::question_rule(sheet, machine, from as u64, to as u64);
     if let Rule::Broken(refusal) = rule {
@@ -47,9 +47,9 @@ pub fn demand(sheet: &[u8], machine: u32, from: u32, to: u32) -> Answer
 // Writes the request bounds of [from, from + n) for n from 0 to `length`, a word each. Words beyond
 // stay as they were; a refused call writes nothing.
 pub fn table(sheet: &[u8], machine: u32, from: u32, length: u32, words: &mut [u32]) -> Tabled
-    ensures result_value { table_paper result ≡ table_reply sheet.now machine from length words.old }
-    ensures words_after { words.new ≡ table_words sheet.now machine from length words.old }
-    ensures holds_bounds { HoldsBounds (machine_of (decode sheet.now) machine) from length words.new result }
+    ensures says { table_paper result ≡ table_reply sheet.now machine from length words.old }
+    ensures writes { words.new ≡ table_words sheet.now machine from length words.old }
+    ensures promises { HoldsBounds (machine_of (decode sheet.now) machine) from length words.new result }
 {
     let rule = window::question_rule(sheet, machine, from as u64, from as u64 + length as u64);
     if let Rule::Broken(refusal) = rule {

@@ -121,9 +121,9 @@ fn put_explanation(out: &mut [u8], program: &[u8], refusal: Refusal) -> usize
 // answers its length. Bytes past the line stay as they were; with fewer than 256 bytes lent beside those of the name
 // nothing is written, and the answer is 0.
 pub fn explain(program: &[u8], refusal: Refusal, out: &mut [u8]) -> usize
-    ensures value { result ≡ printed_length (length program.now + 256)
+    ensures size { result ≡ printed_length (length program.now + 256)
         (explanation program.now refusal) out.old }
-    ensures out_after { out.new ≡ printed (length program.now + 256)
+    ensures writes { out.new ≡ printed (length program.now + 256)
         (explanation program.now refusal) out.old }
 {
     if out.len() < 256 {

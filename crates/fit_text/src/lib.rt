@@ -78,9 +78,9 @@ fn put_accepted(out: &mut [u8], sheet: &[u8], machines: usize, h: u32) -> usize
 // Makes the text of `fit` at the start of the lent bytes and answers its length, and the refusal that it prints. Bytes
 // past the text stay as they were; with fewer than 512 bytes lent nothing is written, and the length is 0.
 pub fn fit(sheet: &[u8], out: &mut [u8]) -> Printed
-    ensures length_value { result.length ≡ printed_length 512 (fit_text sheet.now) out.old }
-    ensures refusal_value { result.refusal ≡ printed_refusal 512 (refusal_of sheet.now) out.old }
-    ensures out_after { out.new ≡ printed 512 (fit_text sheet.now) out.old }
+    ensures size { result.length ≡ printed_length 512 (fit_text sheet.now) out.old }
+    ensures hands { result.refusal ≡ printed_refusal 512 (refusal_of sheet.now) out.old }
+    ensures writes { out.new ≡ printed 512 (fit_text sheet.now) out.old }
 {
     if out.len() < 512 {
         return text::unrefused(0);

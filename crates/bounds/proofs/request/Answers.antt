@@ -16,4 +16,4 @@ pub returns : goal.returns
 returns c =
     let kept = sym c.question_rule-rule.ensures ∙ ap paper c.in_default.is in
     let (reply, bound) = request_answer _ _ _ _ kept c.request_of.ensures in
-    record { result_value = reply; figure = bound }
+    record { says = reply; promises = bound }

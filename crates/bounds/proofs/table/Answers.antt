@@ -10,7 +10,7 @@ returns-in-Broken c =
     table_refused _ _ _ _ _
     (refusal_question _ _ _ _ _ (sym c.question_rule-rule.ensures ∙ ap paper c.in-Broken.is))
     in
-    record { result_value = reply; words_after = words; holds_bounds = bounds }
+    record { says = reply; writes = words; promises = bounds }
 
 pub returns-then-words-length : goal.returns-then-words-length
 returns-then-words-length c =
@@ -18,7 +18,7 @@ returns-then-words-length c =
     let (reply, words, bounds) =
     table_refused _ _ _ _ _ (refusal_short _ _ _ _ _ kept c.if-words-length.true)
     in
-    rw c.placeless.ensures (record { result_value = reply; words_after = words; holds_bounds = bounds })
+    rw c.placeless.ensures (record { says = reply; writes = words; promises = bounds })
 
 pub fill-requires : goal.fill-requires
 fill-requires c =
@@ -31,4 +31,4 @@ returns c =
     let (reply, words, bounds) =
     table_filled _ _ _ _ _ _ (refusal_none _ _ _ _ _ kept c.if-words-length.false) c.fill.ensures
     in
-    record { result_value = reply; words_after = words; holds_bounds = bounds }
+    record { says = reply; writes = words; promises = bounds }

@@ -4,26 +4,26 @@ use Rattle.text.proofs.Printing.{printed_so}
 use Rattle.explain.specs.Words.{explanation}
 use Rattle.explain.proofs.explain.Goals as goal
 
-pub returns-then-out-lt256-clause-value : goal.returns-then-out-lt256-clause-value
-returns-then-out-lt256-clause-value c =
+pub returns-then-out-lt256-clause-size : goal.returns-then-out-lt256-clause-size
+returns-then-out-lt256-clause-size c =
     (unprinted _ (explanation c.args.program.now c.args.refusal) c.args.out.now (omega arith)).0
 
-pub returns-then-out-lt256-clause-out_after : goal.returns-then-out-lt256-clause-out_after
-returns-then-out-lt256-clause-out_after c =
+pub returns-then-out-lt256-clause-writes : goal.returns-then-out-lt256-clause-writes
+returns-then-out-lt256-clause-writes c =
     (unprinted (length c.args.program.now + 256) (explanation c.args.program.now c.args.refusal) c.args.out.now
     (omega arith)).1
 
-pub returns-then-out-program-clause-value : goal.returns-then-out-program-clause-value
-returns-then-out-program-clause-value c =
+pub returns-then-out-program-clause-size : goal.returns-then-out-program-clause-size
+returns-then-out-program-clause-size c =
     (unprinted _ (explanation c.args.program.now c.args.refusal) c.args.out.now (omega arith)).0
 
-pub returns-then-out-program-clause-out_after : goal.returns-then-out-program-clause-out_after
-returns-then-out-program-clause-out_after c =
+pub returns-then-out-program-clause-writes : goal.returns-then-out-program-clause-writes
+returns-then-out-program-clause-writes c =
     (unprinted (length c.args.program.now + 256) (explanation c.args.program.now c.args.refusal) c.args.out.now
     (omega arith)).1
 
-pub returns-clause-value : goal.returns-clause-value
-returns-clause-value c = (printed_so (length c.args.program.now + 256) (omega arith) c.put_explanation.ensures).0
+pub returns-clause-size : goal.returns-clause-size
+returns-clause-size c = (printed_so (length c.args.program.now + 256) (omega arith) c.put_explanation.ensures).0
 
-pub returns-clause-out_after : goal.returns-clause-out_after
-returns-clause-out_after c = (printed_so (length c.args.program.now + 256) (omega arith) c.put_explanation.ensures).1
+pub returns-clause-writes : goal.returns-clause-writes
+returns-clause-writes c = (printed_so (length c.args.program.now + 256) (omega arith) c.put_explanation.ensures).1

@@ -12,7 +12,7 @@ returns-then-out-lt512 c =
     let (size, (hands, bytes)) =
     nothing_prints c.unrefused.ensures 512 (fit_text b) c.args.out.now (refusal_of b) refl c.if-out-lt512.true
     in
-    record { length_value = size; refusal_value = hands; out_after = bytes }
+    record { size = size; hands = hands; writes = bytes }
 
 pub put_accepted-requires : goal.put_accepted-requires
 put_accepted-requires c =
@@ -25,11 +25,11 @@ returns-in-Refused c =
     let (size, (hands, bytes)) =
     prints_so 512 (omega (arith, c.if-out-lt512.false)) (refused_prints _ broken c.print_refused.ensures)
     in
-    record { length_value = size; refusal_value = hands; out_after = bytes }
+    record { size = size; hands = hands; writes = bytes }
 
 pub returns-in-Accepted : goal.returns-in-Accepted
 returns-in-Accepted c =
     let (kept, counted) = accepted_so _ c.check-checked.ensures c.in-Accepted.is in
     let text = answer_prints c.unrefused-in-Accepted.ensures c.put_accepted.ensures in
     let (size, (hands, bytes)) = prints_so 512 (omega (arith, c.if-out-lt512.false)) (accepted_prints _ kept text) in
-    record { length_value = size; refusal_value = hands; out_after = bytes }
+    record { size = size; hands = hands; writes = bytes }
