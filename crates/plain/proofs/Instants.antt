@@ -23,9 +23,6 @@ pub record Passed (m : Machine) (k t f u : ℕ) : Type 0 where
   pub none : (v : ℕ) → t ≤ v → v < u → Instant m k v → ⊥
 
 module _ {m : Machine} {k t f : ℕ} where
-  pub passed_none : t ≤ f → Passed m k t f t
-  passed_none l = record { from = omega arith; to = l; none = λ v a b. absurd (omega arith) }
-
   pub passed_more : {u : ℕ} → Passed m k t f u → u < f → is_instant m k u ≡ false → Passed m k t f (u + 1)
   passed_more {u} h l e =
       record {
@@ -42,7 +39,8 @@ module _ {m : Machine} {k t f : ℕ} where
 
 module _ (m : Machine) where
   -- a search through the actions tells whether the machine has an instant
-  pub has_instant_by : (t : ℕ) (o : Option ℕ) → Smallest (count m) (λ k. is_instant m k t) o → has_instant m t ≡ is_found o
+  pub has_instant_by : (t : ℕ) (o : Option ℕ) → Smallest (count m) (λ k. is_instant m k t) o
+      → has_instant m t ≡ is_found o
   unfolding has_instant
   has_instant_by t o h = ap is_found (smallest_unique (count m) _ (smallest_below _ _) o (smallest_is (count m) _) h)
 
@@ -62,9 +60,6 @@ pub record Counting (m : Machine) (s f number t : ℕ) : Type 0 where
   pub all : number + instants m t (f - t) ≡ instants m s (f - s)
 
 module _ {m : Machine} {s f : ℕ} where
-  pub counting_none : s ≤ f → Counting m s f 0 s
-  counting_none l = record { few = omega arith; to = l; all = omega arith }
-
   module _ {number more t : ℕ} (h : Counting m s f number t) (l : t < f) where
     pub counting_one : has_instant m t ≡ true → more ≡ number + 1 → Counting m s f more (t + 1)
     counting_one e n =

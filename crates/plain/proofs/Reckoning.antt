@@ -36,16 +36,8 @@ module _ {m : Machine} (sizes : MachineSizes m) {k t f u : ℕ} (span : InRange 
         is = sym (at_first_none m (requested m) k t (f - t) (λ v a c. first.none v a (omega (arith, span.forward))));
       }
 
-  -- the sink state is asked about what is left of the window
   module _ (before : u ≡ f → ⊥) where
-    pub span_left : InRange (u + 1) f
-    span_left =
-        record {
-          forward = omega (arith, first.to);
-          short = omega (arith, first.from, span.short);
-          near = span.near;
-        }
-
+    -- the sink state is asked about what is left of the window
     module _ {actions own sink v : ℕ} (all : actions ≡ count m) (costs : own ≡ cost m k)
         (leads : sink ≡ (action_of m k).sink) (asked-then : StateAsks m sink actions (u + 1) f v) where
       rest_is : v ≡ best m (requested m) (u + 1) (f - (u + 1)) (after m k)

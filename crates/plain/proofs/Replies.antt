@@ -90,6 +90,6 @@ module _ (m : Machine) {s f v : ℕ} (bound : IsRequestBound m s f v) where
   plain_agrees_table {k = k} words e l h = largest_unique bound (rw e at (h k l))
 
 -- no second result
-pub plain_unique : (b : List ℕ) (i s f : ℕ) (r q : Answer) → paper r ≡ plain_reply b i s f → paper q ≡ plain_reply b i s f
-    → r ≡ q
+pub plain_unique : (b : List ℕ) (i s f : ℕ) (r q : Answer) → paper r ≡ plain_reply b i s f
+    → paper q ≡ plain_reply b i s f → r ≡ q
 plain_unique b i s f = answer_unique

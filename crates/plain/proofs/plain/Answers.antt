@@ -1,4 +1,4 @@
-use Rattle.std.proofs.Common.{sym, ◌∙◌, ap}
+use Rattle.std.proofs.Common.{sym, ◌∙◌, ap, arith}
 use Rattle.reply.specs.Inside.{paper}
 use Rattle.reply.specs.Reply.{refused}
 use Rattle.window.proofs.Replies.{proper}
@@ -24,7 +24,7 @@ returns-then-instants_in-gt6-clause-says c =
     let kept = sym c.question_rule-rule.ensures ∙ ap paper c.in_default.is in
     ap refused c.placeless.ensures
     ∙ (plain_many _ _ _ _ kept c.entry_of-entry.result c.entry_of-entry.ensures.0 c.instants_in.ensures
-    c.if-instants_in-gt6.true).0
+    (omega (arith, c.if-instants_in-gt6.true))).0
 
 pub machine_asks-requires : goal.machine_asks-requires
 machine_asks-requires c =
@@ -35,10 +35,10 @@ pub returns-clause-says : goal.returns-clause-says
 returns-clause-says c =
     let kept = sym c.question_rule-rule.ensures ∙ ap paper c.in_default.is in
     (plain_taken _ _ _ _ kept c.entry_of-entry.result c.entry_of-entry.ensures.0 c.instants_in.ensures
-    c.if-instants_in-gt6.false c.machine_asks.ensures).0
+    (omega (arith, c.if-instants_in-gt6.false)) c.machine_asks.ensures).0
 
 pub returns-clause-promises : goal.returns-clause-promises
 returns-clause-promises c =
     let kept = sym c.question_rule-rule.ensures ∙ ap paper c.in_default.is in
     (plain_taken _ _ _ _ kept c.entry_of-entry.result c.entry_of-entry.ensures.0 c.instants_in.ensures
-    c.if-instants_in-gt6.false c.machine_asks.ensures).1
+    (omega (arith, c.if-instants_in-gt6.false)) c.machine_asks.ensures).1
