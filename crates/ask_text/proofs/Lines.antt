@@ -5,7 +5,7 @@ use mathlib.Core.List.{List, [], ◌∷◌, ◌++◌, append_assoc, append-nil}
 use native.Mathlib.Omega.{arith}
 use native.Mathlib.Numerals.{add-one}
 use lib.ListN.{length, get_or, take, drop}
-use lib.Seq.{take-suc, take_all, get_or-drop}
+use lib.Seq.{take-suc, get_or-drop}
 use Rattle.model.specs.Legal.{Pair}
 use Rattle.model.specs.Reckon.{pair}
 use Rattle.critical.specs.Critical.{pairs_in}
@@ -50,10 +50,6 @@ pub numbers_more : {b c d : List ℕ} {k r q : ℕ} (ns : List ℕ) → Put b 0 
 numbers_more {k = k} ns p q l =
     rw (add-one, take-suc ns k 0 l, numbers_append (take k ns) (get_or ns k 0 ∷ []), number_alone (get_or ns k 0))
     (put_then p q)
-
-pub numbers_end : {b c : List ℕ} {k r : ℕ} (ns : List ℕ) → Put b 0 (number_lines (take k ns)) r c → length ns ≤ k
-    → Put b 0 (number_lines ns) r c
-numbers_end {k = k} ns p l = rw (take_all k ns l) at p
 
 -- the pair behind the first k
 pairs_next : (k : ℕ) (words : List ℕ)
