@@ -111,9 +111,9 @@ fn print_answer(
 // it prints. Bytes past the text stay as they were; with fewer than 65,536 bytes lent nothing is written, and the
 // length is 0.
 pub fn ask(sheet: &[u8], question: Question, out: &mut [u8]) -> Printed
-    ensures length_value { result.length ≡ printed_length 65536 (ask_text sheet.now question) out.old }
-    ensures refusal_value { result.refusal ≡ printed_refusal 65536 (ask_refusal sheet.now question) out.old }
-    ensures out_after { out.new ≡ printed 65536 (ask_text sheet.now question) out.old }
+    ensures size { result.length ≡ printed_length 65536 (ask_text sheet.now question) out.old }
+    ensures hands { result.refusal ≡ printed_refusal 65536 (ask_refusal sheet.now question) out.old }
+    ensures writes { out.new ≡ printed 65536 (ask_text sheet.now question) out.old }
 {
     if out.len() < 65536 {
         return text::unrefused(0);

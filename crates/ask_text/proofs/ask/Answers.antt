@@ -10,7 +10,7 @@ returns-then-out-lt65536 c =
     nothing_prints c.unrefused.ensures 65536 (ask_text b c.args.question) c.args.out.now
     (ask_refusal b c.args.question) refl (omega arith)
     in
-    record { length_value = length; refusal_value = refusal; out_after = after }
+    record { size = length; hands = refusal; writes = after }
 
 pub returns : goal.returns
 returns c =
@@ -19,4 +19,4 @@ returns c =
     prints_so {text = ask_text b c.args.question} {x = ask_refusal b c.args.question} 65536
     (omega arith) c.print_answer.ensures
     in
-    record { length_value = length; refusal_value = refusal; out_after = after }
+    record { size = length; hands = refusal; writes = after }
