@@ -5,8 +5,8 @@ use Rattle.reply.proofs.Printing.{printed_within}
 use Rattle.ask.proofs.print.Goals as goal
 
 pub slice_bounds-out-end : goal.slice_bounds-out-end
-slice_bounds-out-end c = printed_within _ _ _ c.ask-printed.ensures.length_value c.ask-printed.ensures.out_after
+slice_bounds-out-end c = printed_within _ _ _ c.ask-printed.ensures.size c.ask-printed.ensures.writes
 
 pub slice_bounds-print-end : goal.slice_bounds-print-end
 slice_bounds-print-end c =
-    sym (length-take-le _ _ (printed_within _ _ _ c.ask-printed.ensures.length_value c.ask-printed.ensures.out_after))
+    sym (length-take-le _ _ (printed_within _ _ _ c.ask-printed.ensures.size c.ask-printed.ensures.writes))

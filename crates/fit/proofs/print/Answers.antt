@@ -5,8 +5,8 @@ use Rattle.reply.proofs.Printing.{printed_within}
 use Rattle.fit.proofs.print.Goals as goal
 
 pub slice_bounds-out-end : goal.slice_bounds-out-end
-slice_bounds-out-end c = printed_within _ _ _ c.fit-printed.ensures.length_value c.fit-printed.ensures.out_after
+slice_bounds-out-end c = printed_within _ _ _ c.fit-printed.ensures.size c.fit-printed.ensures.writes
 
 pub slice_bounds-print-end : goal.slice_bounds-print-end
 slice_bounds-print-end c =
-    sym (length-take-le _ _ (printed_within _ _ _ c.fit-printed.ensures.length_value c.fit-printed.ensures.out_after))
+    sym (length-take-le _ _ (printed_within _ _ _ c.fit-printed.ensures.size c.fit-printed.ensures.writes))
