@@ -13,7 +13,8 @@ use Rattle.model.specs.declared.Way.TheVariants.{On}
 use Rattle.model.specs.Machine.{Machine, count, action_of}
 use Rattle.model.specs.Legal.{Pair, requested, demanded}
 use Rattle.model.specs.Reckon.{is_instant, may_begin, most, pair, demand}
-use Rattle.model.specs.Inside.{Closed, Separate, may_trigger, leads_into, brings, ends, figure, IsRow, LastInstant, due_then}
+use Rattle.model.specs.Inside.{Closed, Separate, may_trigger, leads_into, brings, ends}
+use Rattle.model.specs.Inside.{figure, IsRow, LastInstant, due_then}
 use Rattle.model.proofs.Tests.{both_true, cond_cases, cond_cong}
 use Rattle.model.proofs.Most.{most_above, most_below, most_cong, most_max}
 use Rattle.model.proofs.Names.{is_instant_law, closed_inside, closed_onward}
@@ -79,7 +80,8 @@ module _ (m : Machine) (w : Pair → ℕ) (c : Closed m) (s : ℕ) where
 
   -- ticks at which nothing that may be triggered weighs anything leave it as it is
   top_idle : (k j n : ℕ) → k + j ≡ n
-      → ((i u : ℕ) → i < count m → k ≤ u → u < n → may_trigger m (s + u) i ≡ true → w (pair i (s + u)) ≡ 0) → top n ≡ top k
+      → ((i u : ℕ) → i < count m → k ≤ u → u < n → may_trigger m (s + u) i ≡ true → w (pair i (s + u)) ≡ 0)
+      → top n ≡ top k
   top_idle k zero n e h = ap top (omega arith)
   top_idle k (suc j) n e h =
       let u : ℕ = k + j in
@@ -171,7 +173,8 @@ pub last_here : (m : Machine) (s n j : ℕ) → j < count m → may_trigger m (s
 last_here m s n j l i =
     record { early = omega arith; some = inr (j, l, i); none = λ j u l a b. absurd (omega arith) }
 
-pub last_stays : (m : Machine) (s n k : ℕ) → LastInstant m s n k → ((j : ℕ) → j < count m → may_trigger m (s + n) j ≡ true → ⊥)
+pub last_stays : (m : Machine) (s n k : ℕ) → LastInstant m s n k
+    → ((j : ℕ) → j < count m → may_trigger m (s + n) j ≡ true → ⊥)
     → LastInstant m s (n + 1) k
 last_stays m s n k h quiet =
     record {

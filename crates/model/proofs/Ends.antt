@@ -65,7 +65,8 @@ module _ (m : Machine) (ok : Pair → Type 0) (w : Pair → ℕ) (s : ℕ) where
       let j' : q ≡ (action_of m k).source = eqb-true _ _ x in
       let u : may_begin m (action_of m k).source ≡ true = rw (← j') h in
       let y' : is_instant m k (s + j) ≡ true = rw z y in
-      let v : leads_into On m (s + j) (action_of m k).sink k ≡ true = rw (u, y', eq-eqb (action_of m k).sink _ refl) refl in
+      let v : leads_into On m (s + j) (action_of m k).sink k ≡ true =
+      rw (u, y', eq-eqb (action_of m k).sink _ refl) refl in
       omega (
         arith,
         ap (ends m w s j) j',
@@ -120,7 +121,8 @@ ends_none m w c s (suc n) q h =
       ends_none m w c s n q h,
       most_below (count m) (brings On m w (s + n) (ends m w s n) q) 0 (λ k l.
           ⊎_elim (λ z. omega arith)
-          (λ (o, j, g). absurd (false≢true (sym h ∙ ap (may_begin m) (sym j) ∙ closed_onward c k l (both_true _ _ o).0)))
+          (λ (o, j, g).
+          absurd (false≢true (sym h ∙ ap (may_begin m) (sym j) ∙ closed_onward c k l (both_true _ _ o).0)))
           (brings_cases On m w (s + n) (ends m w s n) q k)),
     )
 

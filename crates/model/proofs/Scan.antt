@@ -90,7 +90,8 @@ module _ (ms : List Machine) (i s : ℕ) where
 
   requests_empty : requests ms i s 0 ≡ 0
   requests_empty =
-      added_cong i (λ j. request (machine_of ms j) s 0) (λ j. 0) (λ j l. request_empty (machine_of ms j) s) ∙ added_zero i
+      added_cong i (λ j. request (machine_of ms j) s 0) (λ j. 0) (λ j l. request_empty (machine_of ms j) s)
+      ∙ added_zero i
 
   slack_above : (n m : ℕ) → m ≤ n → m ≤ requests ms i s m + slack ms i s n
   unfolding slack

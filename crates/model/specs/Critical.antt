@@ -42,7 +42,8 @@ go_or_stay (some k) go stay = go k
 unfoldable pub first_best : Machine → (Pair → ℕ) → ℕ → ℕ → (ℕ → Bool) → List Pair
 first_best m w t zero from = []
 first_best m w t (suc n) from =
-    go_or_stay (smallest_below (count m) (is_making m w t n from)) (λ k. pair k t ∷ first_best m w (suc t) n (after m k))
+    go_or_stay (smallest_below (count m) (is_making m w t n from))
+    (λ k. pair k t ∷ first_best m w (suc t) n (after m k))
     (first_best m w (suc t) n from)
 
 -- the critical sequence of [s, s + n)

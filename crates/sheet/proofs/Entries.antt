@@ -41,7 +41,8 @@ module _ {b : List ℕ} {e : Entry} (h : IsEntry b e) where
 -- the periods of a machine, and of all machines, are positive
 pub machine_positive : {b : List ℕ} (k : ℕ) → PeriodsKept b → k < machine_count b
     → Each (λ p. 0 < p) (periods (machine_of (decode b) k))
-machine_positive {b} k h known = (periods_each (λ p. 0 < p) (machine_of (decode b) k)).1 (λ j l. (h.period k j known l).0)
+machine_positive {b} k h known =
+    (periods_each (λ p. 0 < p) (machine_of (decode b) k)).1 (λ j l. (h.period k j known l).0)
 
 pub all_positive : {b : List ℕ} → PeriodsKept b → Each (λ p. 0 < p) (all_periods (decode b))
 all_positive {b} h =

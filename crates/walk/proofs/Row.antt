@@ -85,7 +85,8 @@ pub brings_idle : (way : Way) (m : Machine) (row : ℕ → ℕ) (q t k : ℕ) �
     → brings way m (requested m) t row q k ≡ 0
 brings_idle way m row q t k e = rw e
 
-pub due_idle : (m : Machine) (row : ℕ → ℕ) (ticks t k : ℕ) → may_trigger m t k ≡ false → due_then m t (t + ticks) row k ≡ 0
+pub due_idle : (m : Machine) (row : ℕ → ℕ) (ticks t k : ℕ) → may_trigger m t k ≡ false
+    → due_then m t (t + ticks) row k ≡ 0
 due_idle m row ticks t k e = rw e
 
 module _ (m : Machine) (t k : ℕ) (row : List ℕ) (i : may_trigger m t k ≡ true) where

@@ -10,7 +10,10 @@ pub due_within-requires : goal.due_within-requires
 due_within-requires c =
     let entry = c.entry_of-entry.ensures.1 in
     let last = c.walk_to-front.ensures.last in
-    (entry, row_ready (entry_sizes entry) last.figures (omega (arith, last.last.early, c.requires.window.near)) last.marks)
+    let ready =
+    row_ready (entry_sizes entry) last.figures (omega (arith, last.last.early, c.requires.window.near)) last.marks
+    in
+    (entry, ready)
 
 pub returns : goal.returns
 returns c =

@@ -12,7 +12,8 @@ pub push-requires : goal.push-requires
 push-requires c =
     let (entry, ready) = c.requires in
     let inv = c.loop-unseen.invariant in
-    (entry_joins entry (unseen_more inv.others ready.marks c.loop-unseen-test.true) _ (search rules) ready.small, inv.long)
+    let known = unseen_more inv.others ready.marks c.loop-unseen-test.true in
+    (entry_joins entry known _ (search rules) ready.small, inv.long)
 
 pub loop-unseen-preserved : goal.loop-unseen-preserved
 loop-unseen-preserved c =
