@@ -16,7 +16,7 @@ pub returns-then-words-length : goal.returns-then-words-length
 returns-then-words-length c =
     let kept = sym c.question_rule-rule.ensures ∙ ap paper c.in_default.is in
     let (reply, words, bounds) =
-    table_refused _ _ _ _ _ (refusal_short _ _ _ _ _ kept c.if-words-length.true)
+    table_refused _ _ _ _ _ (refusal_short _ _ _ _ _ kept (omega (arith, c.if-words-length.true)))
     in
     rw c.placeless.ensures (record { says = reply; writes = words; promises = bounds })
 

@@ -10,7 +10,7 @@ pub returns-then-out-lt512 : goal.returns-then-out-lt512
 returns-then-out-lt512 c =
     let b = c.args.sheet.now in
     let (size, (hands, bytes)) =
-    nothing_prints c.unrefused.ensures 512 (fit_text b) c.args.out.now (refusal_of b) refl c.if-out-lt512.true
+    nothing_prints c.unrefused.ensures 512 (fit_text b) c.args.out.now (refusal_of b) refl (omega arith)
     in
     record { size = size; hands = hands; writes = bytes }
 
