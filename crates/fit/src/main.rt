@@ -5,7 +5,7 @@
 use terminal::Input;
 
 fn main(rt: HostRuntime) {
-    if terminal::has_word(&rt, 1) {
+    if 1 < terminal::word_count(&rt, 2) {
         terminal::say(&mut rt.stderr(), b"usage: fit < SHEET\n");
         return;
     }

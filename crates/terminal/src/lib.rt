@@ -94,7 +94,7 @@ pub fn word(words: &impl Env, at: usize, bytes: &mut [u8]) -> usize
 }
 
 // Whether the command line has a word there.
-pub fn has_word(words: &impl Env, at: usize) -> bool {
+fn has_word(words: &impl Env, at: usize) -> bool {
     match words.arg(at, &mut []) {
         Ok(_) => true,
         Err(FillError::TooLong) => true,
