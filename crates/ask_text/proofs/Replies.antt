@@ -2,7 +2,7 @@
 use Prim.Native.Nat.{ℕ, ◌+◌, ◌*◌, ◌≤◌}
 use mathlib.Core.Path.{◌≡◌, refl, sym, ◌∙◌, ap, ap₂}
 use mathlib.Core.List.{List, [], ◌∷◌, ◌++◌, append-nil}
-use mathlib.Core.Option.{Option, none, some}
+use Rattle.std.specs.Prelude.{Option, None, Some}
 use native.Mathlib.Omega.{arith}
 use lib.ListN.{length, take, drop}
 use lib.Seq.{take_at}
@@ -36,18 +36,18 @@ use Rattle.ask_text.proofs.Lines.{number_alone, no_numbers}
 
 -- an answer has no refusal behind it
 answered : {n : ℕ} {figures : List ℕ} (m : ℕ) (others : List ℕ) (x : Option Refusal)
-    → answer n figures ≡ x otherwise answer m others → (x ≡ none) × (figures ≡ others)
-answered m others none e = (refl, cc)
-answered m others (some r) e = absurd (let z : ◌≡◌ {A = ℕ} 0 1 = cc in omega arith)
+    → answer n figures ≡ x otherwise answer m others → (x ≡ None) × (figures ≡ others)
+answered m others None e = (refl, cc)
+answered m others (Some r) e = absurd (let z : ◌≡◌ {A = ℕ} 0 1 = cc in omega arith)
 
 -- a reply's text, by its case
 module _ (more : List ℕ) (reply : Reply) {before after : List ℕ} {q : Printed} where
-  pub refused_text : {x : Refusal} → reply ≡ refused x → Prints before (refused_line x) (some x) q after
+  pub refused_text : {x : Refusal} → reply ≡ refused x → Prints before (refused_line x) (Some x) q after
       → Prints before (reply_text reply more) (refusal_in reply) q after
   refused_text e p = rw e p
 
   pub answered_text : {n : ℕ} {figures : List ℕ} → reply ≡ answer n figures
-      → Prints before (number_lines figures ++ more) none q after
+      → Prints before (number_lines figures ++ more) None q after
       → Prints before (reply_text reply more) (refusal_in reply) q after
   answered_text e p = rw e p
 
@@ -63,12 +63,12 @@ module _ (b : List ℕ) (i s n : ℕ) (r : Tabled) (says : tabledPaper r ≡ tab
   table_reply_lem e = sym says ∙ ap tabledPaper e
 
   pub table_refused : {x : Refusal} {before after : List ℕ} {q : Printed} → r ≡ refusedWith x
-      → Prints before (refused_line x) (some x) q after
+      → Prints before (refused_line x) (Some x) q after
       → Prints before (answer_text Table b i s n) (answer_refusal Table b i s n) q after
   table_refused e = refused_text (written Table b i s n) (answer_reply Table b i s n) (table_reply_lem e)
 
   module _ (e : r ≡ Filled) where
-    kept : table_refusal b i s n (length lent) ≡ none
+    kept : table_refusal b i s n (length lent) ≡ None
     kept = (answered 0 [] _ (ap tabledPaper (sym e) ∙ says)).0
 
     pub table_room : n + 1 ≤ longest_words
@@ -92,7 +92,7 @@ module _ (b : List ℕ) (i s n : ℕ) (r : Tabled) (says : tabledPaper r ≡ tab
           ap number_lines front ∙ ap (λ l. l ++ table) (sym no_numbers)
 
       pub table_filled : {before after : List ℕ} {q : Printed}
-          → Prints before (number_lines (take (n + 1) words)) none q after
+          → Prints before (number_lines (take (n + 1) words)) None q after
           → Prints before (answer_text Table b i s n) (answer_refusal Table b i s n) q after
       table_filled t =
           answered_text (written Table b i s n) (answer_reply Table b i s n) (table_reply_lem e) (rw lines at t)
@@ -104,12 +104,12 @@ module _ (b : List ℕ) (i s f : ℕ) (r : Answer) (says : paper r ≡ critical_
   critical_reply_lem e = sym says ∙ ap paper e
 
   pub critical_refused : {x : Refusal} {before after : List ℕ} {q : Printed} → r ≡ Refused x
-      → Prints before (refused_line x) (some x) q after
+      → Prints before (refused_line x) (Some x) q after
       → Prints before (answer_text Critical b i s f) (answer_refusal Critical b i s f) q after
   critical_refused e = refused_text (written Critical b i s f) (answer_reply Critical b i s f) (critical_reply_lem e)
 
   module _ (number : ℕ) (e : r ≡ Value number) where
-    found : (critical_refusal b i s f (length lent) ≡ none) × (number ∷ [] ≡ length (sequence_of b i s f) ∷ [])
+    found : (critical_refusal b i s f (length lent) ≡ None) × (number ∷ [] ≡ length (sequence_of b i s f) ∷ [])
     found = answered 0 _ _ (ap paper (sym e) ∙ says)
 
     counted : number ≡ length (sequence_of b i s f)
@@ -130,7 +130,7 @@ module _ (b : List ℕ) (i s f : ℕ) (r : Answer) (says : paper r ≡ critical_
         ap pair_lines (ap₂ pairs_in counted after ∙ words_pairs σ (drop (length (words_of σ)) lent))
 
     pub critical_filled : {before after : List ℕ} {q : Printed} (words : List ℕ) → words ≡ critical_words b i s f lent
-        → Prints before (number_line number [] ++ pair_lines (pairs_in number words)) none q after
+        → Prints before (number_line number [] ++ pair_lines (pairs_in number words)) None q after
         → Prints before (answer_text Critical b i s f) (answer_refusal Critical b i s f) q after
     critical_filled words p t =
         answered_text (written Critical b i s f) (answer_reply Critical b i s f) (critical_reply_lem e)

@@ -1,6 +1,6 @@
 -- The program `ask`: the text of the answer to a question.
 use Rattle.std.specs.Prelude.{ℕ, List, [], ◌∷◌, ◌++◌, replicate}
-use Rattle.std.proofs.Math.Option.{Option, none, some}
+use Rattle.std.specs.Prelude.{Option, None, Some}
 use Rattle.model.specs.Machine.{machine_of}
 use Rattle.model.specs.Legal.{Pair}
 use Rattle.reply.specs.declared.Refusal.{Refusal}
@@ -32,8 +32,8 @@ reply_text (answer number figures) more = number_lines figures ++ more
 
 -- the refusal that a reply is, if it is one
 abbrev pub refusal_in : Reply → Option Refusal
-refusal_in (refused r) = some r
-refusal_in (answer number figures) = none
+refusal_in (refused r) = Some r
+refusal_in (answer number figures) = None
 
 -- the words that `ask` lends: enough for the longest table and the longest critical sequence
 abbrev pub lent : List ℕ

@@ -3,7 +3,7 @@
 use Prim.Native.Nat.{ℕ, ◌+◌, ◌-◌, ◌≤◌, ◌<◌}
 use mathlib.Core.Path.{◌≡◌, refl, sym, ◌∙◌, ap}
 use mathlib.Core.List.{List}
-use mathlib.Core.Option.{none, some}
+use Rattle.std.specs.Prelude.{None, Some}
 use native.Mathlib.Omega.{arith}
 use lib.ListN.{length}
 use borrow.Author.Tests.{le-leb, lt-leb}
@@ -31,7 +31,7 @@ use Rattle.bounds.specs.Table.{table_refusal, table_reply, with_table, table_wor
 use Rattle.bounds.proofs.Filling.{listed_first}
 
 -- a question that is not refused is proper
-module _ (b : List ℕ) (i s f : ℕ) (kept : question_refusal b i s f ≡ none) where
+module _ (b : List ℕ) (i s f : ℕ) (kept : question_refusal b i s f ≡ None) where
   between : s + (f - s) ≡ f
   between = omega (arith, (proper b i s f kept).window.forward)
 
@@ -56,17 +56,17 @@ module _ (b : List ℕ) (i s f : ℕ) (r q : Answer) where
 
 -- the same of `table`, with the lent words
 module _ (b : List ℕ) (i s n lent : ℕ) where
-  pub refusal_question : {r : Refusal} → question_refusal b i s (s + n) ≡ some r → table_refusal b i s n lent ≡ some r
+  pub refusal_question : {r : Refusal} → question_refusal b i s (s + n) ≡ Some r → table_refusal b i s n lent ≡ Some r
   unfolding table_refusal
   refusal_question e = or_else_refused _ e
 
-  pub refusal_short : question_refusal b i s (s + n) ≡ none → lent ≤ n
-      → table_refusal b i s n lent ≡ some (refusal 12 0 0)
+  pub refusal_short : question_refusal b i s (s + n) ≡ None → lent ≤ n
+      → table_refusal b i s n lent ≡ Some (refusal 12 0 0)
   unfolding table_refusal
   refusal_short e l =
       or_else_clear _ e ∙ ap (λ t. unless t (refusal 12 0 0)) (lt-leb (n + 1) lent (omega arith))
 
-  pub refusal_none : question_refusal b i s (s + n) ≡ none → n < lent → table_refusal b i s n lent ≡ none
+  pub refusal_none : question_refusal b i s (s + n) ≡ None → n < lent → table_refusal b i s n lent ≡ None
   unfolding table_refusal
   refusal_none e l = or_else_clear _ e ∙ ap (λ t. unless t (refusal 12 0 0)) (le-leb (n + 1) lent (omega arith))
 
@@ -78,12 +78,12 @@ Meets b i s n words after r =
     × HoldsBounds (machine_of (decode b) i) s n after r
 
 module _ (b : List ℕ) (i s n : ℕ) (words : List ℕ) where
-  pub table_refused : {r : Refusal} → table_refusal b i s n (length words) ≡ some r
+  pub table_refused : {r : Refusal} → table_refusal b i s n (length words) ≡ Some r
       → Meets b i s n words words (Refused r)
   table_refused e =
       (otherwise_refused _ e, sym (ap (λ x. unless_refused x (with_table b i s n words) words) e), tt)
 
-  pub table_filled : (after : List ℕ) → table_refusal b i s n (length words) ≡ none → after ≡ with_table b i s n words
+  pub table_filled : (after : List ℕ) → table_refusal b i s n (length words) ≡ None → after ≡ with_table b i s n words
       → Meets b i s n words after Filled
   table_filled after e written = (otherwise_answered _ e, rw e written, bound)
     where

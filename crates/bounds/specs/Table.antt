@@ -1,7 +1,7 @@
 -- Document 01, "The request table for s and N" and "Numbered replies": what `table` replies, and the lent words
 -- afterwards.
 use Rattle.std.specs.Prelude.{ℕ, zero, suc, ◌+◌, ◌≤◌, List, [], ◌∷◌, ◌++◌, length, get_or}
-use Rattle.std.proofs.Math.Option.{Option}
+use Rattle.std.specs.Prelude.{Option}
 use Rattle.model.specs.Machine.{Machine, machine_of}
 use Rattle.model.specs.Legal.{IsRequestBound}
 use Rattle.model.specs.Reckon.{request}

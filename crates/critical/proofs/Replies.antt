@@ -3,7 +3,7 @@
 use Prim.Native.Nat.{ℕ, ◌-◌, ◌*◌, ◌≤◌, ◌<◌}
 use mathlib.Core.Path.{◌≡◌, sym, ◌∙◌, ap, ap₂}
 use mathlib.Core.List.{List, [], ◌∷◌, ◌++◌}
-use mathlib.Core.Option.{none, some}
+use Rattle.std.specs.Prelude.{None, Some}
 use native.Mathlib.Omega.{arith}
 use lib.ListN.{length, take, drop}
 use borrow.Author.Tests.{le-leb, lt-leb}
@@ -33,17 +33,17 @@ use Rattle.critical.specs.Inside.{Holds}
 use Rattle.critical.proofs.Words.{words_length, words_pairs}
 
 module _ (b : List ℕ) (i s f lent : ℕ) where
-  pub refusal_question : {r : Refusal} → question_refusal b i s f ≡ some r → critical_refusal b i s f lent ≡ some r
+  pub refusal_question : {r : Refusal} → question_refusal b i s f ≡ Some r → critical_refusal b i s f lent ≡ Some r
   unfolding critical_refusal
   refusal_question e = or_else_refused _ e
 
-  module _ (kept : question_refusal b i s f ≡ none) where
-    pub refusal_short : lent < 2 * length (sequence_of b i s f) → critical_refusal b i s f lent ≡ some (refusal 12 0 0)
+  module _ (kept : question_refusal b i s f ≡ None) where
+    pub refusal_short : lent < 2 * length (sequence_of b i s f) → critical_refusal b i s f lent ≡ Some (refusal 12 0 0)
     unfolding critical_refusal
     refusal_short l = or_else_clear _ kept ∙ ap (λ t. unless t (refusal 12 0 0)) (lt-leb _ lent l)
 
     -- so an empty sequence never gives 12
-    pub refusal_none : 2 * length (sequence_of b i s f) ≤ lent → critical_refusal b i s f lent ≡ none
+    pub refusal_none : 2 * length (sequence_of b i s f) ≤ lent → critical_refusal b i s f lent ≡ None
     unfolding critical_refusal
     refusal_none l = or_else_clear _ kept ∙ ap (λ t. unless t (refusal 12 0 0)) (le-leb _ lent l)
 
@@ -71,7 +71,7 @@ Meets b i s f words after r =
     × ((after ≡ critical_words b i s f words) × HoldsCritical (machine_of (decode b) i) s f after r)
 
 module _ (b : List ℕ) (i s f : ℕ) (words : List ℕ) where
-  pub critical_refused : {r : Refusal} → critical_refusal b i s f (length words) ≡ some r
+  pub critical_refused : {r : Refusal} → critical_refusal b i s f (length words) ≡ Some r
       → Meets b i s f words words (Refused r)
   critical_refused e = (
     otherwise_refused _ e,
@@ -79,7 +79,7 @@ module _ (b : List ℕ) (i s f : ℕ) (words : List ℕ) where
   )
 
   -- the pairs found are copied to the front
-  pub critical_found : {n : ℕ} {pairs copied : List ℕ} → question_refusal b i s f ≡ none
+  pub critical_found : {n : ℕ} {pairs copied : List ℕ} → question_refusal b i s f ≡ None
       → Holds (sequence_of b i s f) n pairs → 2 * n ≤ length words → copied ≡ take (2 * n) pairs
       → Meets b i s f words (copied ++ drop (2 * n) words) (Value n)
   critical_found {n} {pairs} {copied} kept h room e =

@@ -1,7 +1,7 @@
 -- Document 01, "The critical sequence of a window" and "Numbered replies": what `critical` replies, and the lent words
 -- afterwards.
 use Rattle.std.specs.Prelude.{ℕ, zero, suc, ◌-◌, ◌*◌, List, [], ◌∷◌, length, get_or, drop}
-use Rattle.std.proofs.Math.Option.{Option}
+use Rattle.std.specs.Prelude.{Option}
 use Rattle.model.specs.Limits.{longest_window}
 use Rattle.model.specs.Machine.{Machine, machine_of}
 use Rattle.model.specs.Legal.{Pair}

@@ -2,7 +2,7 @@
 use Prim.Native.Nat.{ℕ, ◌+◌, ◌≤◌, ◌<◌}
 use mathlib.Core.Path.{◌≡◌, sym, ◌∙◌}
 use mathlib.Core.List.{List, [], ◌∷◌, ◌++◌}
-use mathlib.Core.Option.{none, some}
+use Rattle.std.specs.Prelude.{None, Some}
 use native.Mathlib.Omega.{arith}
 use native.Mathlib.Numerals.{add-one}
 use lib.ListN.{length}
@@ -69,11 +69,11 @@ accepted_put b {b0} {b3 = b3} {h = h} {n = n} {r3 = r3} a p q s =
 
 -- the text of `fit`, by what the rules say
 module _ (b : List ℕ) {before after : List ℕ} {r : Printed} where
-  pub refused_prints : {y : Refusal} → refusal_of b ≡ some y → Prints before (refused_line y) (some y) r after
+  pub refused_prints : {y : Refusal} → refusal_of b ≡ Some y → Prints before (refused_line y) (Some y) r after
       → Prints before (fit_text b) (refusal_of b) r after
   refused_prints e p = rw e p
 
-  pub accepted_prints : refusal_of b ≡ none → Prints before (accepted_text (decode b)) none r after
+  pub accepted_prints : refusal_of b ≡ None → Prints before (accepted_text (decode b)) None r after
       → Prints before (fit_text b) (refusal_of b) r after
   accepted_prints e p = rw e p
 

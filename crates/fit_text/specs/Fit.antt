@@ -1,6 +1,6 @@
 -- Document 01, "The program `fit`": the text of a sheet's check.
 use Rattle.std.specs.Prelude.{ℕ, zero, suc, List, [], ◌∷◌, ◌++◌, length}
-use Rattle.std.proofs.Math.Option.{Option, none, some}
+use Rattle.std.specs.Prelude.{Option, None, Some}
 use Rattle.model.specs.Machine.{Machine, count, machine_of, hyperperiod}
 use Rattle.model.specs.Reckon.{request}
 use Rattle.model.specs.Verdict.{Judgement, Fits, Late, Open, verdict}
@@ -33,8 +33,8 @@ accepted_text ms =
 
 -- a refused sheet prints only REFUSED with number and place
 abbrev pub fit_of : Option Refusal → List Machine → List ℕ
-fit_of (some r) ms = refused_line r
-fit_of none ms = accepted_text ms
+fit_of (Some r) ms = refused_line r
+fit_of None ms = accepted_text ms
 
 abbrev pub fit_text : List ℕ → List ℕ
 fit_text b = fit_of (refusal_of b) (decode b)

@@ -3,7 +3,7 @@ use Prim.Native.Nat.{ℕ, zero, suc, ◌+◌, ◌≤◌, ◌<◌}
 use mathlib.Core.Path.{◌≡◌, refl, sym, ◌∙◌, ap, ap₂}
 use mathlib.Core.Bool.{Bool, true, false, false≢true}
 use mathlib.Core.List.{List, [], ◌∷◌}
-use mathlib.Core.Option.{Option, none, some}
+use Rattle.std.specs.Prelude.{Option, None, Some}
 use mathlib.Core.Logic.{inl, inr, ⊎_elim}
 use native.Mathlib.Omega.{arith}
 use native.Mathlib.Decide.{dec_le, dec_lt}
@@ -72,14 +72,14 @@ module _ (m : Machine) (w : Pair → ℕ) (t n : ℕ) (from : ℕ → Bool) wher
   pub first_best_waits : ((j : ℕ) → j < count m → is_making m w t n from j ≡ false)
       → first_best m w t (suc n) from ≡ first_best m w (suc t) n from
   unfolding first_best
-  first_best_waits h = rw (smallest_unique (count m) _ (smallest_below _ _) none (smallest_is (count m) _) h) refl
+  first_best_waits h = rw (smallest_unique (count m) _ (smallest_below _ _) None (smallest_is (count m) _) h) refl
 
   pub first_best_takes : (k : ℕ) → k < count m → is_making m w t n from k ≡ true
       → ((j : ℕ) → j < k → is_making m w t n from j ≡ false)
       → first_best m w t (suc n) from ≡ pair k t ∷ first_best m w (suc t) n (after m k)
   unfolding first_best
   first_best_takes k l e h =
-      rw (smallest_unique (count m) _ (smallest_below _ _) (some k) (smallest_is (count m) _) (l, e, h)) refl
+      rw (smallest_unique (count m) _ (smallest_below _ _) (Some k) (smallest_is (count m) _) (l, e, h)) refl
 
 module _ (m : Machine) (ok : Pair → Type 0) (w : Pair → ℕ) where
   -- σ goes onward, reaches the largest total, and is the first that does
@@ -114,7 +114,7 @@ module _ (m : Machine) (ok : Pair → Type 0) (w : Pair → ℕ) where
           (good : (g : ℕ → Bool) → Good (suc t) n g (next g)) where
         good_more : (o : Option ℕ) → Smallest (count m) makes o
             → Good t (suc n) from (go_or_stay o (λ k. pair k t ∷ next (after m k)) (next from))
-        good_more none h =
+        good_more None h =
             record {
               goes = onward_sooner m ok from t (next from) (good from).goes;
               all = (good from).all ∙ sym (best_waits m w t n from h);
@@ -132,7 +132,7 @@ module _ (m : Machine) (ok : Pair → Type 0) (w : Pair → ℕ) where
                 absurd (false≢true (sym (h p.action i) ∙ x)))
                 (λ z. (good from).first (p ∷ τ) (i, o, z, k, r) (e ∙ best_waits m w t n from h))
                 (eq-or-lt_of_le l)
-        good_more (some i) (l, v, h) =
+        good_more (Some i) (l, v, h) =
             let (o, e) = both_true _ _ v in
             let q : w (pair i t) + rest (after m i) ≡ best m w t (suc n) from = eqb-true _ _ e in
             record {

@@ -2,7 +2,7 @@
 use Prim.Native.Nat.{ℕ, zero, suc, pred, ◌+◌, ◌-◌, ◌≤◌}
 use mathlib.Core.Path.{◌≡◌, refl, ◌∙◌}
 use mathlib.Core.Bool.{Bool, true, false, not}
-use mathlib.Core.Option.{Option, none, some}
+use Rattle.std.specs.Prelude.{Option, None, Some}
 use mathlib.Core.List.{List}
 use mathlib.Core.Logic.{inl, inr}
 use native.Mathlib.Omega.{arith}
@@ -24,12 +24,12 @@ use Rattle.model.proofs.Verdict.{passes_some}
 
 module _ (ms : List Machine) (i s : ℕ) where
   -- one length of the walk: it closes, or it fails, or the walk goes on
-  pub scan_closed : (n left : ℕ) → closes ms i s n ≡ true → scan ms i s n (suc left) ≡ none
+  pub scan_closed : (n left : ℕ) → closes ms i s n ≡ true → scan ms i s n (suc left) ≡ None
   unfolding scan
   scan_closed n left c = rw (c, scan)
 
   pub scan_late : (n left : ℕ) → closes ms i s n ≡ false → passes ms i s n ≡ false
-      → scan ms i s n (suc left) ≡ some (Late i s n (demand (machine_of ms i) s n))
+      → scan ms i s n (suc left) ≡ Some (Late i s n (demand (machine_of ms i) s n))
   unfolding scan
   scan_late n left c p = rw (c, p, scan)
 
@@ -38,7 +38,7 @@ module _ (ms : List Machine) (i s : ℕ) where
   unfolding scan
   scan_next n left c p = rw (c, p, scan)
 
-  pub scan_open : (n : ℕ) → scan ms i s n 0 ≡ some (Open i s)
+  pub scan_open : (n : ℕ) → scan ms i s n 0 ≡ Some (Open i s)
   unfolding scan
   scan_open n = refl
 

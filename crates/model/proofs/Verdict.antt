@@ -2,7 +2,7 @@
 use Prim.Native.Nat.{ℕ, suc, pred, ◌+◌, ◌≤◌, ◌<◌}
 use mathlib.Core.Path.{◌≡◌, refl, sym, ap, ◌∙◌}
 use mathlib.Core.Bool.{true, not, false≢true}
-use mathlib.Core.Option.{Option, none, some}
+use Rattle.std.specs.Prelude.{Option, None, Some}
 use mathlib.Core.List.{List}
 use mathlib.Core.Logic.{inl, inr, ◌↔◌}
 use native.Mathlib.Omega.{arith}
@@ -53,8 +53,8 @@ module _ (ms : List Machine) (i s : ℕ) where
     pub closed : requests ms (suc i) s closing ≤ closing
     pub passing : (n : ℕ) → 1 ≤ n → n < closing → Passes n
 
-  gives_none : gives ms i s ≡ none
-      → (closing : ℕ) × (closing_length ms i s ≡ some closing) × (failing_length ms i s ≡ none)
+  gives_none : gives ms i s ≡ None
+      → (closing : ℕ) × (closing_length ms i s ≡ Some closing) × (failing_length ms i s ≡ None)
   unfolding gives
   gives_none e = elim (none_or_some (failing_length ms i s)) [
     | inl f ↦ elim (none_or_some (closing_length ms i s)) [
@@ -64,7 +64,7 @@ module _ (ms : List Machine) (i s : ℕ) where
     | inr n ↦ absurd (some_none (rw n.1 at e))
   ]
 
-  gives_fitting : gives ms i s ≡ none → Fitting
+  gives_fitting : gives ms i s ≡ None → Fitting
   unfolding closing_length failing_length
   gives_fitting e =
       let (c, z, f) = gives_none e in
@@ -78,7 +78,7 @@ module _ (ms : List Machine) (i s : ℕ) where
             (smallest_none 1 (pred c) (λ k. not (passes ms i s k)) (rw z at f) n a (omega arith)));
       }
 
-  fitting_gives : Fitting → gives ms i s ≡ none
+  fitting_gives : Fitting → gives ms i s ≡ None
   unfolding gives closing_length failing_length
   fitting_gives F =
       let closed : closes ms i s F.closing ≡ true = (closes_at_most F.closing).1 F.closed in
@@ -89,13 +89,13 @@ module _ (ms : List Machine) (i s : ℕ) where
 
 -- no machine and start give Fits
 given_never_fits : (ms : List Machine) (i s : ℕ) (failing closing : Option ℕ)
-    → given ms i s failing closing ≡ some Fits → ⊥
-given_never_fits ms i s (some n) c e = let z : ◌≡◌ {A = ℕ} 0 1 = cc in omega arith
-given_never_fits ms i s none none e = let z : ◌≡◌ {A = ℕ} 0 1 = cc in omega arith
-given_never_fits ms i s none (some c) e = some_none (sym e)
+    → given ms i s failing closing ≡ Some Fits → ⊥
+given_never_fits ms i s (Some n) c e = let z : ◌≡◌ {A = ℕ} 0 1 = cc in omega arith
+given_never_fits ms i s None None e = let z : ◌≡◌ {A = ℕ} 0 1 = cc in omega arith
+given_never_fits ms i s None (Some c) e = some_none (sym e)
 
 module _ (ms : List Machine) where
-  fits_none : verdict ms ≡ Fits → first_of (machine_gives ms) 0 (length ms) ≡ none
+  fits_none : verdict ms ≡ Fits → first_of (machine_gives ms) 0 (length ms) ≡ None
   unfolding verdict machine_gives gives
   fits_none e = elim (none_or_some (first_of (machine_gives ms) 0 (length ms))) [
     | inl z ↦ z
@@ -103,7 +103,7 @@ module _ (ms : List Machine) where
         let (i, a, b, z, h) = first_of_some (machine_gives ms) 0 _ x.0 x.1 in
         let (s, c, d, y, g) = first_of_some (gives ms i) 0 _ x.0 z in
         let f : x.0 ≡ Fits = rw x.1 at e in
-        absurd (given_never_fits ms i s (failing_length ms i s) (closing_length ms i s) (y ∙ ap some f))
+        absurd (given_never_fits ms i s (failing_length ms i s) (closing_length ms i s) (y ∙ ap Some f))
   ]
 
   -- the sheet Fits exactly where each machine with each start below H is fitting
@@ -111,7 +111,7 @@ module _ (ms : List Machine) where
   unfolding verdict machine_gives
   fits_fitting = (
     λ e i s h b.
-        let z : machine_gives ms i ≡ none =
+        let z : machine_gives ms i ≡ None =
         first_of_none (machine_gives ms) 0 _ (fits_none e) i (omega arith) (omega arith) in
         gives_fitting ms i s (first_of_none (gives ms i) 0 _ z s (omega arith) (omega arith)),
     λ F. rw (first_of_absent (machine_gives ms) 0 (length ms) (λ i a h.

@@ -1,7 +1,7 @@
 -- Document 01, "The critical sequence of a window": what it is, and how it is found.
 -- That there is exactly one, and that `critical` finds it, is proved in proofs/Critical.antt.
 use Rattle.std.specs.Prelude.{ℕ, zero, suc, ◌+◌, ◌<◌, ◌≡◌, Bool, ◌&&◌, List, [], ◌∷◌, ◌⊎◌, eqb}
-use Rattle.std.proofs.Math.Option.{Option, none, some}
+use Rattle.std.specs.Prelude.{Option, None, Some}
 use Rattle.model.specs.Machine.{Machine, count}
 use Rattle.model.specs.Legal.{Pair, Legal, Each, Within, total, requested, IsRequestBound}
 use Rattle.model.specs.Reckon.{may_begin, pair, is_open, after, best}
@@ -35,8 +35,8 @@ is_making m w t n from k =
 
 -- `go k` where there is a number k, else `stay`
 abbrev pub go_or_stay : Option ℕ → (ℕ → List Pair) → List Pair → List Pair
-go_or_stay none go stay = stay
-go_or_stay (some k) go stay = go k
+go_or_stay None go stay = stay
+go_or_stay (Some k) go stay = go k
 
 -- the first sequence of the largest total: at each tick the smallest action that makes it up, if there is one
 unfoldable pub first_best : Machine → (Pair → ℕ) → ℕ → ℕ → (ℕ → Bool) → List Pair

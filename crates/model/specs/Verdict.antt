@@ -1,6 +1,6 @@
 -- Document 01, "Verdict": the closing length, the lengths that pass, and the judgement of a sheet's machines.
 use Rattle.std.specs.Prelude.{ℕ, zero, suc, pred, ◌+◌, Bool, not, List, leb, length}
-use Rattle.std.proofs.Math.Option.{Option, none, some, get_or}
+use Rattle.std.specs.Prelude.{Option, None, Some, unwrap_or}
 use Rattle.model.specs.Limits.{longest_window}
 use Rattle.model.specs.Machine.{Machine, machine_of, hyperperiod}
 use Rattle.model.specs.Reckon.{request, demand}
@@ -25,8 +25,8 @@ closing_length ms i s = smallest 1 longest_window (closes ms i s)
 
 -- lengths are tested up to but not including the closing length, or up to and including 2,048 if there is none
 abbrev pub last_tested : Option ℕ → ℕ
-last_tested none = longest_window
-last_tested (some closing) = pred closing
+last_tested None = longest_window
+last_tested (Some closing) = pred closing
 
 -- m has: the demand bound of machine i over [s, s + n], plus the request bounds over [s, s + m) of machines 0 to i - 1,
 -- is at most m
@@ -49,9 +49,9 @@ pub data Judgement : Type 0 where
 
 -- what machine i and start s give, by their failing length and their closing length
 abbrev pub given : List Machine → ℕ → ℕ → Option ℕ → Option ℕ → Option Judgement
-given ms i s (some n) closing = some (Late i s n (demand (machine_of ms i) s n))
-given ms i s none none = some (Open i s)
-given ms i s none (some closing) = none
+given ms i s (Some n) closing = Some (Late i s n (demand (machine_of ms i) s n))
+given ms i s None None = Some (Open i s)
+given ms i s None (Some closing) = None
 
 unfoldable pub gives : List Machine → ℕ → ℕ → Option Judgement
 gives ms i s = given ms i s (failing_length ms i s) (closing_length ms i s)
@@ -62,4 +62,4 @@ machine_gives ms i = first_of (gives ms i) 0 (hyperperiod ms)
 
 -- machines in order: the first that one gives, and if nothing is given, Fits
 unfoldable pub verdict : List Machine → Judgement
-verdict ms = get_or (first_of (machine_gives ms) 0 (length ms)) Fits
+verdict ms = unwrap_or (first_of (machine_gives ms) 0 (length ms)) Fits

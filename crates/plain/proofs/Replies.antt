@@ -3,7 +3,7 @@
 use Prim.Native.Nat.{ℕ, ◌+◌, ◌-◌, ◌≤◌, ◌<◌}
 use mathlib.Core.Path.{◌≡◌, refl, sym, ◌∙◌, ap}
 use mathlib.Core.List.{List, [], ◌∷◌}
-use mathlib.Core.Option.{Option, none, some}
+use Rattle.std.specs.Prelude.{Option, None, Some}
 use native.Mathlib.Omega.{arith}
 use lib.Dec.{leb}
 use lib.ListN.{get_or}
@@ -30,11 +30,11 @@ use Rattle.window.proofs.Replies.{proper}
 use Rattle.plain.specs.Plain.{instants, rule14, plain_refusal, plain_reply}
 
 module _ (b : List ℕ) (i s f : ℕ) where
-  refusal_question : {r : Refusal} → question_refusal b i s f ≡ some r → plain_refusal b i s f ≡ some r
+  refusal_question : {r : Refusal} → question_refusal b i s f ≡ Some r → plain_refusal b i s f ≡ Some r
   unfolding plain_refusal
   refusal_question e = or_else_refused _ e
 
-  refusal_by : question_refusal b i s f ≡ none → plain_refusal b i s f ≡ rule14 (machine_of (decode b) i) s f
+  refusal_by : question_refusal b i s f ≡ None → plain_refusal b i s f ≡ rule14 (machine_of (decode b) i) s f
   unfolding plain_refusal
   refusal_by kept = or_else_clear _ kept
 
@@ -43,11 +43,11 @@ abbrev Meets : List ℕ → ℕ → ℕ → ℕ → Answer → Type 0
 Meets b i s f r = (paper r ≡ plain_reply b i s f) × Figure (IsRequestBound (machine_of (decode b) i) s f) r
 
 module _ (b : List ℕ) (i s f : ℕ) where
-  pub plain_refused : {r : Refusal} → question_refusal b i s f ≡ some r → Meets b i s f (Refused r)
+  pub plain_refused : {r : Refusal} → question_refusal b i s f ≡ Some r → Meets b i s f (Refused r)
   plain_refused e = (otherwise_refused _ (refusal_question b i s f e), tt)
 
   -- by the number of instants of the machine that an entry is of
-  module _ (kept : question_refusal b i s f ≡ none) (e : Entry) (of : e.machine ≡ i) {n : ℕ}
+  module _ (kept : question_refusal b i s f ≡ None) (e : Entry) (of : e.machine ≡ i) {n : ℕ}
       (counted : n ≡ instants (machine_at b e) s (f - s)) where
     tested : rule14 (machine_of (decode b) i) s f ≡ unless (leb n 6) (refusal 14 0 0)
     tested = rw (sym of, sym counted) refl
@@ -66,9 +66,9 @@ module _ (b : List ℕ) (i s f : ℕ) where
 
 -- on each window that it takes it agrees with the table method: with `request`, with a row of figures, and with a word
 -- of the request table
-or_else_nothing : (x : Option Refusal) → x or_else none ≡ x
-or_else_nothing none = refl
-or_else_nothing (some r) = refl
+or_else_nothing : (x : Option Refusal) → x or_else None ≡ x
+or_else_nothing None = refl
+or_else_nothing (Some r) = refl
 
 pub plain_agrees_request : (b : List ℕ) (i s f : ℕ) (r q : Answer) → instants (machine_of (decode b) i) s (f - s) ≤ 6
     → paper r ≡ plain_reply b i s f

@@ -1,6 +1,6 @@
 -- Document 01, "A plain reckoner of one request bound", and reply 14.
 use Rattle.std.specs.Prelude.{ℕ, zero, suc, ◌+◌, ◌-◌, Bool, cond, List, [], ◌∷◌, leb}
-use Rattle.std.proofs.Math.Option.{Option}
+use Rattle.std.specs.Prelude.{Option}
 use Rattle.model.specs.Machine.{Machine, count, machine_of}
 use Rattle.model.specs.Reckon.{is_instant, request}
 use Rattle.model.specs.Search.{smallest_below, is_found}

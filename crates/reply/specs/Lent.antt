@@ -1,6 +1,6 @@
 -- Document 01, "Numbered replies": lent words, too few of them, and what they hold afterwards.
 use Rattle.std.specs.Prelude.{ℕ, List, ◌++◌, leb, length, drop}
-use Rattle.std.proofs.Math.Option.{Option, none, some}
+use Rattle.std.specs.Prelude.{Option, None, Some}
 use Rattle.reply.specs.declared.Refusal.{Refusal}
 use Rattle.reply.specs.Reply.{refusal, unless}
 
@@ -14,5 +14,5 @@ in_front written words = written ++ drop (length written) words
 
 -- the lent words afterwards: a refused call writes nothing
 abbrev pub unless_refused : Option Refusal → List ℕ → List ℕ → List ℕ
-unless_refused none after words = after
-unless_refused (some r) after words = words
+unless_refused None after words = after
+unless_refused (Some r) after words = words

@@ -1,6 +1,6 @@
 -- Text in lent bytes: where it goes, what they then hold, and the refusal that it prints.
 use Rattle.std.specs.Prelude.{ℕ, cond, List, ◌++◌, leb, length, drop}
-use Rattle.std.proofs.Math.Option.{Option, none, some}
+use Rattle.std.specs.Prelude.{Option, None, Some}
 use Rattle.reply.specs.declared.Refusal.{Refusal}
 use Rattle.reply.specs.Reply.{refusal}
 
@@ -14,9 +14,9 @@ printed room text out = cond (leb room (length out)) (text ++ drop (length text)
 
 -- a refusal as it is handed back: where there is none, number 0 at place 0, 0
 abbrev pub handed : Option Refusal → Refusal
-handed none = refusal 0 0 0
-handed (some r) = r
+handed None = refusal 0 0 0
+handed (Some r) = r
 
 -- the refusal that the text prints
 unfoldable pub printed_refusal : ℕ → Option Refusal → List ℕ → Refusal
-printed_refusal room x out = cond (leb room (length out)) (handed x) (handed none)
+printed_refusal room x out = cond (leb room (length out)) (handed x) (handed None)

@@ -1,6 +1,6 @@
 -- Document 01, "Numbered replies": what a call replies, and refusals in their order.
 use Rattle.std.specs.Prelude.{ℕ, Bool, true, false, List}
-use Rattle.std.proofs.Math.Option.{Option, none, some}
+use Rattle.std.specs.Prelude.{Option, None, Some}
 use Rattle.reply.specs.declared.Refusal.{Refusal}
 
 -- a refusal: its number in the table, and its place
@@ -15,17 +15,17 @@ pub data Reply : Type 0 where
 
 -- where the test fails, the refusal
 abbrev pub unless : Bool → Refusal → Option Refusal
-unless true r = none
-unless false r = some r
+unless true r = None
+unless false r = Some r
 
 -- the earlier refusal, if there is one, or else the later
 infixr 20 ◌or_else◌
 abbrev pub ◌or_else◌ : Option Refusal → Option Refusal → Option Refusal
-none or_else later = later
-some r or_else later = some r
+None or_else later = later
+Some r or_else later = Some r
 
 -- the refusal, or what a call answers where there is none
 infixr 10 ◌otherwise◌
 abbrev pub ◌otherwise◌ : Option Refusal → Reply → Reply
-none otherwise reply = reply
-some r otherwise reply = refused r
+None otherwise reply = reply
+Some r otherwise reply = refused r

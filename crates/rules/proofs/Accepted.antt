@@ -3,7 +3,7 @@ use Prim.Native.Nat.{ℕ, zero, suc, ◌+◌, ◌-◌, ◌*◌, ◌≤◌, ◌<�
 use mathlib.Core.Path.{◌≡◌}
 use mathlib.Core.Bool.{Bool, true}
 use mathlib.Core.List.{List}
-use mathlib.Core.Option.{none}
+use Rattle.std.specs.Prelude.{None}
 use native.Mathlib.Omega.{arith}
 use lib.Dec.{leb, ltb}
 use lib.ListN.{length}
@@ -26,7 +26,7 @@ use Rattle.rules.specs.Rules.{entry_refusal, offset_refusal, end_refusal, action
 use Rattle.rules.proofs.Tests.{between_true}
 
 module _ (b : List ℕ) where
-  pub trailer_so : rule1 b ≡ none → rule3 b ≡ none → rule4 b ≡ none → TrailerKept b
+  pub trailer_so : rule1 b ≡ None → rule3 b ≡ None → rule4 b ≡ None → TrailerKept b
   trailer_so one three four =
       record {
         long = between_true 28 2124 (length b) (unless_none _ _ one);
@@ -37,10 +37,10 @@ module _ (b : List ℕ) where
             (unless_none (trailer_in_range b) _ four)).1;
       }
 
-  entry_kept : rule5 b ≡ none → (k : ℕ) → k < machine_count b → entry_in_range (entry b k) ≡ true
+  entry_kept : rule5 b ≡ None → (k : ℕ) → k < machine_count b → entry_in_range (entry b k) ≡ true
   entry_kept five k known = unless_none _ _ (first_none (entry_refusal b) (machine_count b) five k known)
 
-  pub entries_so : TrailerKept b → rule5 b ≡ none → EntriesKept b
+  pub entries_so : TrailerKept b → rule5 b ≡ None → EntriesKept b
   entries_so h five =
       record {
         trailer = h;
@@ -71,7 +71,7 @@ module _ (b : List ℕ) where
       rw (let z : machine_count b ≡ (machine_count b - suc k) + suc k = omega arith in z)
       (before_rises (suc k) (machine_count b - suc k))
 
-  pub offsets_so : EntriesKept b → rule6 b ≡ none → OffsetsKept b
+  pub offsets_so : EntriesKept b → rule6 b ≡ None → OffsetsKept b
   offsets_so h six =
       record {
         entries = h;
@@ -94,7 +94,7 @@ module _ (b : List ℕ) where
           k known))
 
   -- where no action of any machine fails a test
-  all_keep : (test : Machine → Action → Bool) (n : ℕ) → first_of (machine_refusal test n b) 0 (machine_count b) ≡ none
+  all_keep : (test : Machine → Action → Bool) (n : ℕ) → first_of (machine_refusal test n b) 0 (machine_count b) ≡ None
       → (k j : ℕ) → k < machine_count b → j < count (machine_of (decode b) k)
       → test (machine_of (decode b) k) (action_of (machine_of (decode b) k) j) ≡ true
   all_keep test n e k j known l =
@@ -124,7 +124,7 @@ module _ (b : List ℕ) where
         deadline = leb-true _ _ deadline;
       }
 
-  pub periods_so : OffsetsKept b → rule7 b ≡ none → PeriodsKept b
+  pub periods_so : OffsetsKept b → rule7 b ≡ None → PeriodsKept b
   periods_so h seven =
       record {
         offsets = h;
@@ -133,7 +133,7 @@ module _ (b : List ℕ) where
             (all_keep action_in_range 7 seven k j known l)).period;
       }
 
-  pub accepted : PeriodsKept b → rule7 b ≡ none → rule8 b ≡ none → rule9 b ≡ none → Accepted b
+  pub accepted : PeriodsKept b → rule7 b ≡ None → rule8 b ≡ None → rule9 b ≡ None → Accepted b
   accepted h seven eight nine =
       record {
         periods = h;

@@ -3,7 +3,7 @@
 use Prim.Native.Nat.{ℕ, ◌≤◌, ◌<◌}
 use mathlib.Core.Path.{◌≡◌, refl, sym, ◌∙◌, ap}
 use mathlib.Core.List.{List, [], ◌∷◌}
-use mathlib.Core.Option.{Option, none, some}
+use Rattle.std.specs.Prelude.{Option, None, Some}
 use native.Mathlib.Omega.{arith}
 use borrow.Author.Tests.{le-leb, lt-leb}
 use Rattle.model.specs.Limits.{longest_hyperperiod}
@@ -23,7 +23,7 @@ use Rattle.rules.specs.Inside.{trailer_rules, first_rules}
 use Rattle.rules.proofs.Accepted.{trailer_so, entries_so, offsets_so, periods_so, accepted}
 
 module _ (b : List ℕ) where
-  pub trailer_rules_so : trailer_rules b ≡ none → TrailerKept b
+  pub trailer_rules_so : trailer_rules b ≡ None → TrailerKept b
   trailer_rules_so e =
       let (one, rest) = or_else_none (rule1 b) _ e in
       let (two, more) = or_else_none (rule2 b) _ rest in
@@ -32,11 +32,11 @@ module _ (b : List ℕ) where
 
   -- rules 1 to 8 kept
   record Kept : Type 0 where
-    seven : rule7 b ≡ none
-    eight : rule8 b ≡ none
+    seven : rule7 b ≡ None
+    eight : rule8 b ≡ None
     periods : PeriodsKept b
 
-  kept : first_rules b ≡ none → Kept
+  kept : first_rules b ≡ None → Kept
   unfolding first_rules
   kept e =
       let (trailer, from5) = or_else_none (trailer_rules b) _ e in
@@ -49,7 +49,7 @@ module _ (b : List ℕ) where
         periods = periods_so b (offsets_so b (entries_so b (trailer_rules_so trailer) five) six) seven;
       }
 
-  pub first_rules_so : first_rules b ≡ none → PeriodsKept b
+  pub first_rules_so : first_rules b ≡ None → PeriodsKept b
   first_rules_so e = (kept e).periods
 
   refusal_last : refusal_of b ≡ first_rules b or_else rule9 b
@@ -69,26 +69,26 @@ module _ (b : List ℕ) where
       → check_reply b ≡ x otherwise answer 0 (machine_count b ∷ hyperperiod (decode b) ∷ [])
   reply_by x e = ap (λ y. y otherwise answer 0 (machine_count b ∷ hyperperiod (decode b) ∷ [])) e
 
-  pub check_broken : {r : Refusal} → first_rules b ≡ some r → check_reply b ≡ refused r
+  pub check_broken : {r : Refusal} → first_rules b ≡ Some r → check_reply b ≡ refused r
   check_broken e = reply_by _ (refusal_last ∙ or_else_refused (rule9 b) e)
 
-  pub check_nine : first_rules b ≡ none → longest_hyperperiod < hyperperiod (decode b)
+  pub check_nine : first_rules b ≡ None → longest_hyperperiod < hyperperiod (decode b)
       → check_reply b ≡ refused (refusal 9 0 0)
   check_nine e l =
       reply_by _ (refusal_last ∙ or_else_clear (rule9 b) e
       ∙ ap (λ t. unless t (refusal 9 0 0)) (lt-leb (hyperperiod (decode b)) longest_hyperperiod l))
 
-  none_refused : first_rules b ≡ none → hyperperiod (decode b) ≤ longest_hyperperiod → refusal_of b ≡ none
+  none_refused : first_rules b ≡ None → hyperperiod (decode b) ≤ longest_hyperperiod → refusal_of b ≡ None
   none_refused e l =
       refusal_last ∙ or_else_clear (rule9 b) e
       ∙ ap (λ t. unless t (refusal 9 0 0)) (le-leb (hyperperiod (decode b)) longest_hyperperiod l)
 
-  pub check_accepts : first_rules b ≡ none → hyperperiod (decode b) ≤ longest_hyperperiod
+  pub check_accepts : first_rules b ≡ None → hyperperiod (decode b) ≤ longest_hyperperiod
       → check_reply b ≡ answer 0 (machine_count b ∷ hyperperiod (decode b) ∷ [])
   check_accepts e l = reply_by _ (none_refused e l)
 
   -- a sheet that no rule refuses is accepted, with all that this gives
-  pub not_refused : refusal_of b ≡ none → IsAccepted b
+  pub not_refused : refusal_of b ≡ None → IsAccepted b
   not_refused e =
       let (first, nine) = or_else_none (first_rules b) (rule9 b) (sym refusal_last ∙ e) in
       let k = kept first in
@@ -100,20 +100,20 @@ module _ (b : List ℕ) where
       → paper r ≡ x otherwise answer 0 (machine_count b ∷ hyperperiod (decode b) ∷ [])
   decided x e r p = p ∙ reply_by b x e
 
-  pub refused_so : {r : Checked} {x : Refusal} → paper r ≡ check_reply b → r ≡ Refused x → refusal_of b ≡ some x
+  pub refused_so : {r : Checked} {x : Refusal} → paper r ≡ check_reply b → r ≡ Refused x → refusal_of b ≡ Some x
   refused_so {r} {x} p e = cases (refusal_of b) refl
     where
-      cases : (y : Option Refusal) → refusal_of b ≡ y → refusal_of b ≡ some x
-      cases none q = absurd (let h = decided none q r p in let z : ◌≡◌ {A = ℕ} 0 1 = cc in omega arith)
-      cases (some y) q = let h = decided (some y) q r p in let z : y ≡ x = cc in q ∙ ap some z
+      cases : (y : Option Refusal) → refusal_of b ≡ y → refusal_of b ≡ Some x
+      cases None q = absurd (let h = decided None q r p in let z : ◌≡◌ {A = ℕ} 0 1 = cc in omega arith)
+      cases (Some y) q = let h = decided (Some y) q r p in let z : y ≡ x = cc in q ∙ ap Some z
 
   pub accepted_so : {r : Checked} {m h : ℕ} → paper r ≡ check_reply b → r ≡ Accepted m h
-      → (refusal_of b ≡ none) × Counted b m h
+      → (refusal_of b ≡ None) × Counted b m h
   accepted_so {r} {m} {h} p e = cases (refusal_of b) refl
     where
-      cases : (y : Option Refusal) → refusal_of b ≡ y → (refusal_of b ≡ none) × Counted b m h
-      cases none q = let d = decided none q r p in (q, record { accepted = not_refused b q; count = cc; period = cc })
-      cases (some y) q = absurd (let d = decided (some y) q r p in let z : ◌≡◌ {A = ℕ} 0 1 = cc in omega arith)
+      cases : (y : Option Refusal) → refusal_of b ≡ y → (refusal_of b ≡ None) × Counted b m h
+      cases None q = let d = decided None q r p in (q, record { accepted = not_refused b q; count = cc; period = cc })
+      cases (Some y) q = absurd (let d = decided (Some y) q r p in let z : ◌≡◌ {A = ℕ} 0 1 = cc in omega arith)
 
 -- no second result satisfies the contract of `check`
 pub check_unique : (b : List ℕ) (r s : Checked) → paper r ≡ check_reply b → paper s ≡ check_reply b → r ≡ s

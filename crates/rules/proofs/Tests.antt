@@ -3,7 +3,7 @@ use Prim.Native.Nat.{ℕ, ◌+◌, ◌-◌, ◌*◌, ◌≤◌, ◌<◌}
 use mathlib.Core.Path.{◌≡◌, refl, sym, ◌∙◌, ap, ap₂}
 use mathlib.Core.Bool.{Bool, true, ◌&&◌, false≢true}
 use mathlib.Core.List.{List, [], ◌∷◌}
-use mathlib.Core.Option.{none, some}
+use Rattle.std.specs.Prelude.{None, Some}
 use native.Mathlib.Omega.{arith}
 use native.Mathlib.Numerals.{add-one}
 use lib.Dec.{leb, ltb, eqb}
@@ -78,9 +78,9 @@ module _ (b : List ℕ) {machines k begin t : ℕ} (counted : machines ≡ machi
   at_end : begin ≡ action_size * actions_before b (machine_count b)
   at_end = ends ∙ ap (λ i. action_size * actions_before b i) (last ∙ counted)
 
-  pub end_broken : (begin ≡ t → ⊥) → end_refusal b (machine_count b) ≡ some (refusal 6 machines 0)
+  pub end_broken : (begin ≡ t → ⊥) → end_refusal b (machine_count b) ≡ Some (refusal 6 machines 0)
   end_broken n =
-      equal_broken _ _ _ (λ e. n (at_end ∙ sym e ∙ sym trailer)) ∙ ap (λ i. some (refusal 6 i 0)) (sym counted)
+      equal_broken _ _ _ (λ e. n (at_end ∙ sym e ∙ sym trailer)) ∙ ap (λ i. Some (refusal 6 i 0)) (sym counted)
 
-  pub end_kept : begin ≡ t → end_refusal b (machine_count b) ≡ none
+  pub end_kept : begin ≡ t → end_refusal b (machine_count b) ≡ None
   end_kept e = equal_kept _ _ _ (sym trailer ∙ sym e ∙ at_end)

@@ -1,6 +1,6 @@
 -- Document 01, "Numbered replies": rules 1 to 9 are tried in that order; a sheet that breaks none is accepted.
 use Rattle.std.specs.Prelude.{ℕ, List, [], ◌∷◌}
-use Rattle.std.proofs.Math.Option.{Option}
+use Rattle.std.specs.Prelude.{Option}
 use Rattle.model.specs.Machine.{hyperperiod}
 use Rattle.reply.specs.declared.Refusal.{Refusal}
 use Rattle.reply.specs.Reply.{Reply, answer, ◌or_else◌, ◌otherwise◌}

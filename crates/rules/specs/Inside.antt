@@ -1,6 +1,6 @@
 -- What the contracts of inner functions cite, and no reader has to believe.
 use Rattle.std.specs.Prelude.{ℕ, ◌≤◌, ◌<◌, ◌≡◌, Bool, cond, List, eqb}
-use Rattle.std.proofs.Math.Option.{Option}
+use Rattle.std.specs.Prelude.{Option}
 use Rattle.model.specs.Limits.{longest_hyperperiod}
 use Rattle.model.specs.Machine.{Action, Machine}
 use Rattle.reply.specs.declared.Refusal.{Refusal}

@@ -1,6 +1,6 @@
 -- Document 01, "Numbered replies": rules 1 to 9, each over the entire sheet, with the first place that breaks it.
 use Rattle.std.specs.Prelude.{ℕ, ◌+◌, ◌*◌, Bool, true, false, ◌&&◌, List, [], ◌∷◌, leb, ltb, eqb, length}
-use Rattle.std.proofs.Math.Option.{Option}
+use Rattle.std.specs.Prelude.{Option}
 use Rattle.model.specs.Limits.{longest_period, longest_time, longest_hyperperiod}
 use Rattle.model.specs.Machine.{Action, Machine, count, action_of, machine_of, divisor, hyperperiod}
 use Rattle.model.specs.Search.{first_of}

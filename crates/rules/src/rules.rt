@@ -1,7 +1,7 @@
 // Rules 1 to 9. Each function answers that its rules are kept, or the first place at which one is
 // broken, in the order of specs/Rules.antt.
 ghost use Rattle.std.specs.Prelude.{◌≡◌, ◌+◌, ◌≤◌, ◌<◌, length};
-ghost use Rattle.std.proofs.Math.Option.{some};
+ghost use Rattle.std.specs.Prelude.{Some};
 ghost use Rattle.number.specs.Divide.{fold, lcm};
 ghost use Rattle.model.specs.Limits.{longest_hyperperiod};
 ghost use Rattle.model.specs.Machine.{action_of, machine_of, periods, hyperperiod, divisor as machine_divisor};
@@ -22,7 +22,7 @@ const SFS1: [u8; 4] = *b"SFS1";
 
 fn broken(number: u32, first: usize, second: usize) -> Rule
     requires { (first ≤ 32) × (second ≤ 32) }
-    ensures { paper result ≡ some (refusal number first second) }
+    ensures { paper result ≡ Some (refusal number first second) }
 {
     Rule::Broken(Refusal {
         number,

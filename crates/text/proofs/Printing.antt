@@ -2,7 +2,7 @@
 use Prim.Native.Nat.{ℕ, ◌≤◌, ◌<◌}
 use mathlib.Core.Path.{◌≡◌, refl, ◌∙◌, ap}
 use mathlib.Core.List.{List, ◌++◌}
-use mathlib.Core.Option.{Option, none}
+use Rattle.std.specs.Prelude.{Option, None}
 use native.Mathlib.Omega.{arith}
 use borrow.Author.Tests.{le-leb, lt-leb}
 use lib.ListN.{length, drop}
@@ -23,9 +23,9 @@ module _ {text before after : List ℕ} {r : ℕ} (room : ℕ) (lent : room ≤ 
   printed_so = rw (le-leb room (length before) lent) (whole, p.says ∙ ap (λ n. text ++ drop n before) whole)
 
 -- what `unrefused` gives
-module _ {n : ℕ} {r : Printed} (e : (r.length ≡ n) × (r.refusal ≡ handed none)) where
+module _ {n : ℕ} {r : Printed} (e : (r.length ≡ n) × (r.refusal ≡ handed None)) where
   -- no refusal is handed back with an answer's text
-  pub answer_prints : {before text after : List ℕ} → Put before 0 text n after → Prints before text none r after
+  pub answer_prints : {before text after : List ℕ} → Put before 0 text n after → Prints before text None r after
   answer_prints p = record { put = rw e.0 p; hands = e.1 }
 
   -- nor where nothing is printed

@@ -1,6 +1,6 @@
 -- What the contracts of inner functions cite, and no reader has to believe.
 use Rattle.std.specs.Prelude.{ℕ, ◌+◌, ◌≤◌, ◌≡◌, List, ◌++◌, length, take, drop}
-use Rattle.std.proofs.Math.Option.{Option, none, some}
+use Rattle.std.specs.Prelude.{Option, None, Some}
 use Rattle.reply.specs.declared.Refusal.{Refusal}
 use Rattle.reply.specs.declared.Printed.{Printed}
 use Rattle.reply.specs.Printed.{handed}
@@ -21,5 +21,5 @@ pub record Prints (before text : List ℕ) (x : Option Refusal) (r : Printed) (a
 
 -- what was read, as the paper has it
 abbrev pub paper : Number → Option ℕ
-paper (Value n) = some n
-paper Malformed = none
+paper (Value n) = Some n
+paper Malformed = None

@@ -2,7 +2,7 @@
 use Rattle.std.specs.Prelude.{ℕ, zero, suc, ◌+◌, ◌-◌, ◌*◌, ◌/◌, ◌%◌, cond, ◌&&◌, List, [], ◌∷◌, ◌++◌, leb, ltb}
 use Prim.Native.String.{String, [] as end, ◌∷◌ as ◌then◌}
 use Prim.Native.Char.{code}
-use Rattle.std.proofs.Math.Option.{Option, none, some}
+use Rattle.std.specs.Prelude.{Option, None, Some}
 use Rattle.reply.specs.declared.Refusal.{Refusal}
 
 -- the characters of a quoted text
@@ -38,14 +38,14 @@ number_line n ns = line (decimal n) ns
 
 -- the number that a word of decimal digits says, the digits so far being v; none for another character, or past 32 bits
 unfoldable pub read_from : ℕ → List ℕ → Option ℕ
-read_from v [] = some v
+read_from v [] = Some v
 read_from v (c ∷ word) =
     let next = 10 * v + (c - 48) in
-    cond (leb 48 c && leb c 57 && leb next 4294967295) (read_from next word) none
+    cond (leb 48 c && leb c 57 && leb next 4294967295) (read_from next word) None
 
 -- an empty word says none
 unfoldable pub read_number : List ℕ → Option ℕ
-read_number [] = none
+read_number [] = None
 read_number (c ∷ word) = read_from 0 (c ∷ word)
 
 -- a refusal prints only REFUSED with number and place

@@ -3,7 +3,7 @@ use Prim.Native.Nat.{ℕ, zero, suc, ◌+◌, ◌-◌, ◌*◌, ◌%◌, ◌≤�
 use mathlib.Core.Path.{◌≡◌, refl, sym, ◌∙◌, ap, ap₂}
 use mathlib.Core.Bool.{false}
 use mathlib.Core.List.{List}
-use mathlib.Core.Option.{none, some}
+use Rattle.std.specs.Prelude.{None, Some}
 use native.Mathlib.Omega.{arith}
 use native.Mathlib.Numerals.{add-one}
 use native.Mathlib.Nat.{mod-lt, mod-eq_of_lt, mod-add-mod, add-zero}
@@ -175,7 +175,7 @@ module _ {b masks lowest : List ℕ} {h : ℕ} (marked : MaskedSheet b masks low
       here : scan (decode b) i s (suc n) (suc (longest_window - suc n)) ≡ gives (decode b) i s
       here = rw (let z : suc (longest_window - suc n) ≡ longest_window - n = omega arith in z) left
 
-      pub length_closes : level.above + level.own ≤ n + 1 → none ≡ gives (decode b) i s
+      pub length_closes : level.above + level.own ≤ n + 1 → None ≡ gives (decode b) i s
       length_closes l =
           sym (scan_closed (decode b) i s (suc n) (longest_window - suc n)
           ((closes_at_most (decode b) i s (suc n)).1 (omega (arith, both))))
@@ -187,13 +187,13 @@ module _ {b masks lowest : List ℕ} {h : ℕ} (marked : MaskedSheet b masks low
         not_closed = lt-leb (requests (decode b) (suc i) s (suc n)) (suc n) (omega (arith, both))
 
         pub length_late : (d : ℕ) → d ≡ demand (machine_of (decode b) i) s (n + 1) → slack (decode b) i s (n + 1) < d
-            → some (Late i s (n + 1) d) ≡ gives (decode b) i s
+            → Some (Late i s (n + 1) d) ≡ gives (decode b) i s
         length_late d e l =
             let f : d ≡ demand (machine_of (decode b) i) s (suc n) = rw (add-one n) at e in
             let m : slack (decode b) i s (suc n) < demand (machine_of (decode b) i) s (suc n) =
             rw (add-one n, f) at l in
             rw (add-one n)
-            (ap (λ x. some (Late i s (suc n) x)) f
+            (ap (λ x. Some (Late i s (suc n) x)) f
             ∙ sym (scan_late (decode b) i s (suc n) (longest_window - suc n) not_closed
             (passes_slack (decode b) i s (suc n) ∙ lt-leb _ _ m))
             ∙ here)
@@ -246,6 +246,6 @@ module _ {b masks lowest : List ℕ} {h : ℕ} (marked : MaskedSheet b masks low
 
     -- no length is left
     pub walked_open : {n : ℕ} {level : Level} {room phase : ℕ} → Walked b i s h n level room phase
-        → longest_window ≤ n → n ≤ longest_window → some (Open i s) ≡ gives (decode b) i s
+        → longest_window ≤ n → n ≤ longest_window → Some (Open i s) ≡ gives (decode b) i s
     walked_open {n} w a c =
         sym (scan_open (decode b) i s (suc n)) ∙ rw (let z : longest_window - n ≡ 0 = omega arith in z) at w.left

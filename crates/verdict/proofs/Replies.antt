@@ -2,7 +2,7 @@
 use Prim.Native.Nat.{ℕ}
 use mathlib.Core.Path.{◌≡◌, sym, ◌∙◌, ap}
 use mathlib.Core.List.{List}
-use mathlib.Core.Option.{Option, none, get_or}
+use Rattle.std.specs.Prelude.{Option, None, unwrap_or}
 use Rattle.model.specs.Run.{Safe}
 use Rattle.model.specs.Search.{first_of}
 use Rattle.model.specs.Verdict.{Judgement, machine_gives, verdict, Fits as fits}
@@ -19,14 +19,14 @@ use Rattle.verdict.specs.Judge.{verdict_reply}
 module _ (b : List ℕ) where
   -- the verdict is the first that a machine gives
   pub verdict_is : {o : Option Judgement} → o ≡ first_of (machine_gives (decode b)) 0 (machine_count b)
-      → get_or o fits ≡ verdict (decode b)
+      → unwrap_or o fits ≡ verdict (decode b)
   unfolding verdict
   verdict_is e =
-      ap (λ o. get_or o fits) e
-      ∙ sym (ap (λ n. get_or (first_of (machine_gives (decode b)) 0 n) fits) (decode_count b))
+      ap (λ o. unwrap_or o fits) e
+      ∙ sym (ap (λ n. unwrap_or (first_of (machine_gives (decode b)) 0 n) fits) (decode_count b))
 
   -- where it is Fits, no run is late
-  pub given_safe : refusal_of b ≡ none → fits ≡ verdict (decode b) → Safe (decode b)
+  pub given_safe : refusal_of b ≡ None → fits ≡ verdict (decode b) → Safe (decode b)
   given_safe e f = fits_safe (not_refused b e).sizes (sym f)
 
 -- no second result satisfies the contract of `judge`

@@ -3,7 +3,7 @@ use Prim.Native.Nat.{ℕ, ◌+◌, ◌-◌, ◌≤◌, ◌<◌}
 use mathlib.Core.Path.{◌≡◌, ◌∙◌, ap}
 use mathlib.Core.Bool.{true, false, ◌&&◌}
 use mathlib.Core.List.{List}
-use mathlib.Core.Option.{none, some}
+use Rattle.std.specs.Prelude.{None, Some}
 use native.Mathlib.Omega.{arith}
 use lib.Dec.{leb}
 use borrow.Author.Tests.{leb-true, lt-ltb, le-ltb, ltb-true}
@@ -20,29 +20,29 @@ use Rattle.window.specs.Window.{window_in_range, rule10, rule11, question_refusa
 use Rattle.window.specs.Inside.{Proper}
 
 module _ (b : List ℕ) (i s f : ℕ) where
-  pub question_sheet : {r : Refusal} → refusal_of b ≡ some r → question_refusal b i s f ≡ some r
+  pub question_sheet : {r : Refusal} → refusal_of b ≡ Some r → question_refusal b i s f ≡ Some r
   unfolding question_refusal
   question_sheet e = or_else_refused _ e
 
-  pub question_machine : refusal_of b ≡ none → machine_count b ≤ i → question_refusal b i s f ≡ some (refusal 10 0 0)
+  pub question_machine : refusal_of b ≡ None → machine_count b ≤ i → question_refusal b i s f ≡ Some (refusal 10 0 0)
   unfolding question_refusal
   question_machine e l =
       or_else_clear _ e ∙ or_else_refused _ (ap (λ t. unless t (refusal 10 0 0)) (le-ltb i (machine_count b) l))
 
-  in_sheet : refusal_of b ≡ none → i < machine_count b → question_refusal b i s f ≡ rule11 s f
+  in_sheet : refusal_of b ≡ None → i < machine_count b → question_refusal b i s f ≡ rule11 s f
   unfolding question_refusal
   in_sheet e l =
       or_else_clear _ e ∙ or_else_clear _ (ap (λ t. unless t (refusal 10 0 0)) (lt-ltb i (machine_count b) l))
 
-  pub question_window : refusal_of b ≡ none → i < machine_count b → window_in_range s f ≡ false
-      → question_refusal b i s f ≡ some (refusal 11 0 0)
+  pub question_window : refusal_of b ≡ None → i < machine_count b → window_in_range s f ≡ false
+      → question_refusal b i s f ≡ Some (refusal 11 0 0)
   question_window e l w = in_sheet e l ∙ ap (λ t. unless t (refusal 11 0 0)) w
 
-  pub question_kept : refusal_of b ≡ none → i < machine_count b → window_in_range s f ≡ true
-      → question_refusal b i s f ≡ none
+  pub question_kept : refusal_of b ≡ None → i < machine_count b → window_in_range s f ≡ true
+      → question_refusal b i s f ≡ None
   question_kept e l w = in_sheet e l ∙ ap (λ t. unless t (refusal 11 0 0)) w
 
-pub proper : (b : List ℕ) (i s f : ℕ) → question_refusal b i s f ≡ none → Proper b i s f
+pub proper : (b : List ℕ) (i s f : ℕ) → question_refusal b i s f ≡ None → Proper b i s f
 unfolding question_refusal
 proper b i s f e =
     let (sheet, rest) = or_else_none (refusal_of b) _ e in

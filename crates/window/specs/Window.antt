@@ -1,6 +1,6 @@
 -- Document 01, "Windows" and "Numbered replies": what may be asked about a machine and a window.
 use Rattle.std.specs.Prelude.{ℕ, ◌+◌, Bool, ◌&&◌, List, leb, ltb}
-use Rattle.std.proofs.Math.Option.{Option}
+use Rattle.std.specs.Prelude.{Option}
 use Rattle.model.specs.Limits.{longest_window, last_tick}
 use Rattle.reply.specs.declared.Refusal.{Refusal}
 use Rattle.reply.specs.Reply.{refusal, unless, ◌or_else◌}

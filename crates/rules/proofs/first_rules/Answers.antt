@@ -1,5 +1,5 @@
 use Rattle.std.proofs.Common.{List, ℕ, ◌≡◌, ◌∙◌, sym, ap}
-use Rattle.std.proofs.Math.Option.{none}
+use Rattle.std.specs.Prelude.{None}
 use Rattle.reply.specs.Inside.{paper}
 use Rattle.reply.specs.Reply.{◌or_else◌}
 use Rattle.reply.proofs.Refusals.{or_else_refused, or_else_clear}
@@ -11,16 +11,16 @@ use Rattle.rules.proofs.Replies.{trailer_rules_so}
 use Rattle.rules.proofs.first_rules.Goals as goal
 
 -- what is known where the rules have been kept so far, and which are left to decide
-module _ (b : List ℕ) (trailer : trailer_rules b ≡ none) where
+module _ (b : List ℕ) (trailer : trailer_rules b ≡ None) where
   past_trailer : first_rules b ≡ rule5 b or_else rule6 b or_else rule7 b or_else rule8 b
   unfolding first_rules
   past_trailer = or_else_clear _ trailer
 
-  module _ (five : rule5 b ≡ none) where
+  module _ (five : rule5 b ≡ None) where
     past_entries : EntriesKept b × (first_rules b ≡ rule6 b or_else rule7 b or_else rule8 b)
     past_entries = (entries_so b (trailer_rules_so b trailer) five, past_trailer ∙ or_else_clear _ five)
 
-    past_offsets : rule6 b ≡ none → OffsetsKept b × (first_rules b ≡ rule7 b or_else rule8 b)
+    past_offsets : rule6 b ≡ None → OffsetsKept b × (first_rules b ≡ rule7 b or_else rule8 b)
     past_offsets six = (offsets_so b past_entries.0 six, past_entries.1 ∙ or_else_clear _ six)
 
 pub returns-in-Broken : goal.returns-in-Broken
