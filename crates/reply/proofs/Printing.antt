@@ -9,7 +9,8 @@ use borrow.Author.Tests.{le-leb, lt-leb}
 use lib.ListN.{length, drop, length-append}
 use Rattle.reply.specs.declared.Refusal.{Refusal}
 use Rattle.reply.specs.declared.Printed.{Printed}
-use Rattle.reply.specs.Printed.{printed_length, printed_refusal, printed}
+use Rattle.reply.specs.Printed.{printed_length, handed, printed_refusal, printed}
+use Rattle.reply.proofs.Unique.{handed_unique}
 
 -- too few bytes are left as they were
 pub unprinted : (room : ℕ) (text before : List ℕ) → length before < room
@@ -34,7 +35,7 @@ printed_within room text before {r} {after} e p =
 abbrev pub Promised : ℕ → List ℕ → Option Refusal → List ℕ → Printed → List ℕ → Type 0
 Promised room text x before r after =
     (r.length ≡ printed_length room text before)
-    × ((r.refusal ≡ printed_refusal room x before) × (after ≡ printed room text before))
+    × ((handed r.refused ≡ printed_refusal room x before) × (after ≡ printed room text before))
 
 -- a line has one length and one memory
 pub printed_unique : (room : ℕ) (text before : List ℕ) (r q : ℕ) (after other : List ℕ)
@@ -47,6 +48,6 @@ pub promised_unique : (room : ℕ) (text : List ℕ) (x : Option Refusal) (befor
     (after other : List ℕ)
     → Promised room text x before r after → Promised room text x before q other → (r ≡ q) × (after ≡ other)
 promised_unique room text x before r q after other p s = (
-  ap₂ (λ n y. record { length = n; refusal = y }) (p.0 ∙ sym s.0) (p.1.0 ∙ sym s.1.0),
+  ap₂ (λ n y. record { length = n; refused = y }) (p.0 ∙ sym s.0) (handed_unique _ _ (p.1.0 ∙ sym s.1.0)),
   p.1.1 ∙ sym s.1.1,
 )

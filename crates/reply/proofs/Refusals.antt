@@ -3,7 +3,6 @@ use Prim.Native.Nat.{ℕ, ◌≤◌}
 use mathlib.Core.Path.{◌≡◌, refl, sym, ◌∙◌, ap}
 use mathlib.Core.Bool.{Bool, true, false, not}
 use Rattle.std.specs.Prelude.{Option, None, Some}
-use Rattle.std.proofs.Math.Option.{none-ne-some} -- TODO
 use lib.Dec.{eqb}
 use borrow.Author.Tests.{not-true, not-false, eq-eqb, ne_eqb, leb-true}
 use Rattle.reply.specs.declared.Refusal.{Refusal}
@@ -19,7 +18,7 @@ kept_here t {test} r e n = ap (λ x. unless x r) (sym e ∙ not-false t n)
 
 pub unless_none : (test : Bool) (r : Refusal) → unless test r ≡ None → test ≡ true
 unless_none true r e = refl
-unless_none false r e = absurd (none-ne-some r (sym e))
+unless_none false r e = cc
 
 -- the same of a test that two numbers are equal
 pub equal_broken : (x y : ℕ) (r : Refusal) → (x ≡ y → ⊥) → unless (eqb x y) r ≡ Some r
@@ -40,7 +39,7 @@ or_else_clear b e = ap (λ x. x or_else b) e
 
 pub or_else_none : (a b : Option Refusal) → a or_else b ≡ None → (a ≡ None) × (b ≡ None)
 or_else_none None b e = (refl, e)
-or_else_none (Some r) b e = absurd (none-ne-some r (sym e))
+or_else_none (Some r) b e = cc
 
 pub or_else_assoc : (a b c : Option Refusal) → (a or_else b) or_else c ≡ a or_else (b or_else c)
 or_else_assoc None b c = refl

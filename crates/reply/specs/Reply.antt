@@ -1,11 +1,29 @@
 -- Document 01, "Numbered replies": what a call replies, and refusals in their order.
-use Rattle.std.specs.Prelude.{ℕ, Bool, true, false, List}
-use Rattle.std.specs.Prelude.{Option, None, Some}
+use Rattle.std.specs.Prelude.{ℕ, Bool, true, false, List, Option, None, Some}
 use Rattle.reply.specs.declared.Refusal.{Refusal}
+use Rattle.reply.specs.declared.Reason.{Reason}
+use Rattle.reply.specs.declared.Reason.TheVariants.{Length, LastFour, MachineCount, Trailer, Entry, Offset, Action, Deadline}
+use Rattle.reply.specs.declared.Reason.TheVariants.{Hyperperiod, UnknownMachine, Window, ShortOutput, ManyInstants}
 
 -- a refusal: its number in the table, and its place
 abbrev pub refusal : ℕ → ℕ → ℕ → Refusal
 refusal n first second = record { number = n; first = first; second = second }
+
+-- the refusal for each reason
+abbrev pub refusal_for : Reason → Refusal
+refusal_for Length = refusal 1 0 0
+refusal_for LastFour = refusal 2 0 0
+refusal_for MachineCount = refusal 3 0 0
+refusal_for Trailer = refusal 4 0 0
+refusal_for (Entry machine) = refusal 5 machine 0
+refusal_for (Offset machine) = refusal 6 machine 0
+refusal_for (Action machine action) = refusal 7 machine action
+refusal_for (Deadline machine action) = refusal 8 machine action
+refusal_for Hyperperiod = refusal 9 0 0
+refusal_for UnknownMachine = refusal 10 0 0
+refusal_for Window = refusal 11 0 0
+refusal_for ShortOutput = refusal 12 0 0
+refusal_for ManyInstants = refusal 14 0 0
 
 -- what a call replies
 pub data Reply : Type 0 where

@@ -1,9 +1,8 @@
 -- The paper's number and values for each answer of `table`.
-use Rattle.std.specs.Prelude.{[]}
-use Rattle.reply.specs.declared.Tabled.{Tabled}
-use Rattle.reply.specs.declared.Tabled.TheVariants.{Filled, Refused}
-use Rattle.reply.specs.Reply.{Reply, answer, refused}
+use Rattle.std.specs.Prelude.{[], Result, Ok, Err, ⊤}
+use Rattle.reply.specs.declared.Reason.{Reason}
+use Rattle.reply.specs.Reply.{Reply, answer, refused, refusal_for}
 
-abbrev pub paper : Tabled → Reply
-paper Filled = answer 0 []
-paper (Refused r) = refused r
+abbrev pub paper : Result ⊤ Reason → Reply
+paper (Ok _) = answer 0 []
+paper (Err r) = refused (refusal_for r)

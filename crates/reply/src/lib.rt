@@ -1,48 +1,89 @@
-// What calls answer: a refusal with its number and place, or what a call gives where nothing is refused; and questions.
+// What calls answer: what a call gives where nothing is refused, or the reason why it is refused; and questions.
 // Definitions: specs/Reply.antt, Lent.antt and Printed.antt, and a file for each answer.
 #![tactic(auto)]
 
 ghost use Rattle.std.specs.Prelude.{◌≡◌};
-ghost use Rattle.reply.specs.Reply.{refusal};
+ghost use Rattle.reply.specs.Reply.{refusal, refusal_for};
 
-// Why a call is refused: the number of the reply, and its place.
-#[derive(Clone, Copy)]
+// Why a call is refused, and where. README's table has each in words.
+#[derive(Clone, Copy, Debug, PartialEq, Eq)]
+pub enum Reason {
+    Length,
+    LastFour,
+    MachineCount,
+    Trailer,
+    Entry { machine: u32 },
+    Offset { machine: u32 },
+    Action { machine: u32, action: u32 },
+    Deadline { machine: u32, action: u32 },
+    Hyperperiod,
+    UnknownMachine,
+    Window,
+    ShortOutput,
+    ManyInstants,
+}
+
+// A refusal as it is printed: the number of the reply, and its place.
+#[derive(Clone, Copy, Debug, PartialEq, Eq)]
 pub struct Refusal {
     pub number: u32,
     pub first: u32,
     pub second: u32,
 }
 
-// What a rule says.
-#[derive(Clone, Copy)]
-pub enum Rule {
-    Kept,
-    Broken(Refusal),
+impl From<Reason> for Refusal {
+    ghost from_gives = { λ reason result. result ≡ refusal_for reason };
+
+    fn from(reason: Reason) -> Refusal {
+        match reason {
+            Reason::Length => placeless(1),
+            Reason::LastFour => placeless(2),
+            Reason::MachineCount => placeless(3),
+            Reason::Trailer => placeless(4),
+            Reason::Entry { machine } => at_machine(5, machine),
+            Reason::Offset { machine } => at_machine(6, machine),
+            Reason::Action { machine, action } => at_action(7, machine, action),
+            Reason::Deadline { machine, action } => at_action(8, machine, action),
+            Reason::Hyperperiod => placeless(9),
+            Reason::UnknownMachine => placeless(10),
+            Reason::Window => placeless(11),
+            Reason::ShortOutput => placeless(12),
+            Reason::ManyInstants => placeless(14),
+        }
+    }
 }
 
-// What `check` answers.
-#[derive(Clone, Copy)]
-pub enum Checked {
-    Accepted { machines: u32, hyperperiod: u32 },
-    Refused(Refusal),
+fn placeless(number: u32) -> Refusal
+    ensures { result ≡ refusal number 0 0 }
+{
+    at_machine(number, 0)
 }
 
-// What a call answers that returns one number.
-#[derive(Clone, Copy)]
-pub enum Answer {
-    Value(u32),
-    Refused(Refusal),
+fn at_machine(number: u32, machine: u32) -> Refusal
+    ensures { result ≡ refusal number machine 0 }
+{
+    at_action(number, machine, 0)
 }
 
-// What `table` answers.
-#[derive(Clone, Copy)]
-pub enum Tabled {
-    Filled,
-    Refused(Refusal),
+fn at_action(number: u32, machine: u32, action: u32) -> Refusal
+    ensures { result ≡ refusal number machine action }
+{
+    Refusal {
+        number,
+        first: machine,
+        second: action,
+    }
+}
+
+// What `check` gives for a sheet that it accepts.
+#[derive(Clone, Copy, Debug, PartialEq, Eq)]
+pub struct Accepted {
+    pub machines: u32,
+    pub hyperperiod: u32,
 }
 
 // A window that fails: machine, start, length, and the demand bound there.
-#[derive(Clone, Copy)]
+#[derive(Clone, Copy, Debug, PartialEq, Eq)]
 pub struct Window {
     pub machine: u32,
     pub start: u32,
@@ -50,25 +91,24 @@ pub struct Window {
     pub demand: u32,
 }
 
-// What `judge` answers.
-#[derive(Clone, Copy)]
+// What `judge` gives for a sheet that is accepted.
+#[derive(Clone, Copy, Debug, PartialEq, Eq)]
 pub enum Verdict {
     Fits,
     Late(Window),
     Open { machine: u32, start: u32 },
-    Refused(Refusal),
 }
 
-// What was printed into lent bytes: the length of the text, and the refusal that it prints, number 0 at place 0, 0
-// where it prints none.
-#[derive(Clone, Copy)]
+// What was printed into lent bytes: the length of the text, and the reason for the refusal that it prints, if it prints
+// one.
+#[derive(Clone, Copy, Debug, PartialEq, Eq)]
 pub struct Printed {
     pub length: usize,
-    pub refusal: Refusal,
+    pub refused: Option<Reason>,
 }
 
 // What can be asked about a machine and a window.
-#[derive(Clone, Copy)]
+#[derive(Clone, Copy, Debug, PartialEq, Eq)]
 pub enum Kind {
     Request,
     Demand,
@@ -78,28 +118,10 @@ pub enum Kind {
 }
 
 // A question. For a table `to` is its length.
-#[derive(Clone, Copy)]
+#[derive(Clone, Copy, Debug, PartialEq, Eq)]
 pub struct Question {
     pub kind: Kind,
     pub machine: u32,
     pub from: u32,
     pub to: u32,
-}
-
-// What the words of a command line ask.
-#[derive(Clone, Copy)]
-pub enum Asked {
-    This(Question),
-    Nothing,
-}
-
-// A refusal without a place.
-pub fn placeless(number: u32) -> Refusal
-    ensures { result ≡ refusal number 0 0 }
-{
-    Refusal {
-        number,
-        first: 0,
-        second: 0,
-    }
 }
