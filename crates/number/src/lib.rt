@@ -26,7 +26,7 @@ pub fn read_byte(bytes: &[u8], at: usize) -> usize
     requires { at < length bytes.now }
     ensures { (result ≡ get_or bytes.now at 0) × (result < 256) }
 {
-    bytes[at] as usize
+    usize::from(bytes[at])
 }
 
 // The two bytes from `at` on, as a number.
@@ -34,7 +34,7 @@ pub fn read_le16(bytes: &[u8], at: usize) -> u32
     requires { at + 2 ≤ length bytes.now }
     ensures { (result ≡ le16 bytes.now at) × (result < 65536) }
 {
-    wide(bytes[at]) + 256 * wide(bytes[at + 1])
+    u32::from(u16::from_le_bytes([bytes[at], bytes[at + 1]]))
 }
 
 // The four bytes from `at` on, as a number.
@@ -42,11 +42,5 @@ pub fn read_le32(bytes: &[u8], at: usize) -> u32
     requires { at + 4 ≤ length bytes.now }
     ensures { result ≡ le32 bytes.now at }
 {
-    read_le16(bytes, at) + 65536 * read_le16(bytes, at + 2)
-}
-
-fn wide(x: u8) -> u32
-    ensures { (result ≡ x) × (result < 256) }
-{
-    x as u32
+    u32::from_le_bytes([bytes[at], bytes[at + 1], bytes[at + 2], bytes[at + 3]])
 }

@@ -53,7 +53,8 @@ impl From<Reason> for Refusal {
     }
 }
 
-fn placeless(number: u32) -> Refusal
+// A refusal without a place.
+pub fn placeless(number: u32) -> Refusal
     ensures { result ≡ refusal number 0 0 }
 {
     at_machine(number, 0)
