@@ -7,7 +7,8 @@ use native.Mathlib.Nat.{not-suc-le-zero, le_of_suc-le-suc, zero-lt-suc}
 use lib.ListN.{length, get_or}
 use Rattle.number.specs.Divide.{Each}
 use Rattle.number.proofs.Each.{each_append}
-use Rattle.model.specs.Machine.{Action, Machine, count, action_of, machine_of, periods, all_periods}
+use Rattle.model.specs.declared.Action.{Action}
+use Rattle.model.specs.Machine.{Machine, count, action_of, machine_of, periods, all_periods}
 
 module _ (P : ℕ → Type 0) where
   period_at : (xs : List Action) (d : Action) → Each P (map (λ a. a.period) xs) → (k : ℕ) → k < length xs

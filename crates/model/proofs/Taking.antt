@@ -10,7 +10,8 @@ use lib.Seq.{drop-cons}
 use Rattle.number.specs.Divide.{Each, fold, gcd, lcm}
 use Rattle.number.proofs.Divide.{fold_append, lcms_rises}
 use Rattle.number.proofs.Each.{each_append, each_drop}
-use Rattle.model.specs.Machine.{Action, Machine, count, action_of, machine_of, periods, divisor}
+use Rattle.model.specs.declared.Action.{Action}
+use Rattle.model.specs.Machine.{Machine, count, action_of, machine_of, periods, divisor}
 use Rattle.model.specs.Machine.{all_periods, hyperperiod}
 
 periods_count : (m : Machine) → length (periods m) ≡ count m

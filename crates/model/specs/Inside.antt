@@ -5,7 +5,8 @@ use Rattle.std.specs.Prelude.{ℕ, zero, suc, ◌+◌, ◌≤◌, ◌<◌, max, 
 use Rattle.model.specs.declared.Way.{Way}
 use Rattle.model.specs.declared.Way.TheVariants.{On, Back}
 use Rattle.model.specs.Limits.{longest_window, last_tick, longest_time}
-use Rattle.model.specs.Machine.{Action, Machine, count, action_of}
+use Rattle.model.specs.declared.Action.{Action}
+use Rattle.model.specs.Machine.{Machine, count, action_of}
 use Rattle.model.specs.Legal.{Instant, MayBegin, Pair, requested}
 use Rattle.model.specs.Reckon.{is_instant, may_begin, most, pair, is_open, after, best}
 

@@ -1,14 +1,7 @@
 -- Document 01, "The sheet": a sheet's machines as plain data.
 use Rattle.std.specs.Prelude.{ℕ, List, [], ◌∷◌, ◌++◌, map, length, get_or}
 use Rattle.number.specs.Divide.{gcd_of, lcm_of}
-
--- an action, with its times in ticks
-pub record Action : Type 0 where
-  pub source : ℕ
-  pub sink : ℕ
-  pub period : ℕ
-  pub time : ℕ
-  pub deadline : ℕ
+use Rattle.model.specs.declared.Action.{Action}
 
 -- an action of these numbers
 abbrev pub action : (source sink period time deadline : ℕ) → Action

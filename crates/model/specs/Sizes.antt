@@ -2,7 +2,8 @@
 -- ask for them, and every accepted sheet has them; no public contract cites them.
 use Rattle.std.specs.Prelude.{ℕ, ◌≤◌, ◌<◌, List, length}
 use Rattle.model.specs.Limits.{longest_period, longest_time, longest_hyperperiod}
-use Rattle.model.specs.Machine.{Machine, Action, count, action_of, machine_of, divisor, hyperperiod}
+use Rattle.model.specs.declared.Action.{Action}
+use Rattle.model.specs.Machine.{Machine, count, action_of, machine_of, divisor, hyperperiod}
 
 -- a number from low to high
 abbrev pub Between : ℕ → ℕ → ℕ → Type 0

@@ -17,8 +17,18 @@ pub const LONGEST_TIME: u32 = 1024;
 // Nor is H.
 pub const LONGEST_HYPERPERIOD: u32 = 1024;
 
+// An action, with its times in ticks.
+#[derive(Clone, Copy, Debug, PartialEq, Eq)]
+pub struct Action {
+    pub source: usize,
+    pub sink: usize,
+    pub period: u32,
+    pub time: u32,
+    pub deadline: u32,
+}
+
 // A walk goes on from an action's source to its sink, or back.
-#[derive(Clone, Copy)]
+#[derive(Clone, Copy, Debug, PartialEq, Eq)]
 pub enum Way {
     On,
     Back,

@@ -9,7 +9,8 @@ use lib.Dec.{leb, ltb}
 use lib.ListN.{length}
 use borrow.Author.Tests.{ltb-true, leb-true, eqb-true}
 use Rattle.model.specs.Limits.{longest_period, longest_time, longest_hyperperiod}
-use Rattle.model.specs.Machine.{Action, Machine, count, action_of, machine_of, divisor, hyperperiod}
+use Rattle.model.specs.declared.Action.{Action}
+use Rattle.model.specs.Machine.{Machine, count, action_of, machine_of, divisor, hyperperiod}
 use Rattle.model.specs.Sizes.{Between, ActionSizes, MachineSizes, Sizes}
 use Rattle.model.specs.Search.{first_of}
 use Rattle.model.proofs.Tests.{both_true}

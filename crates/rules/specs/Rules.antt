@@ -2,7 +2,8 @@
 use Rattle.std.specs.Prelude.{ℕ, ◌+◌, ◌*◌, Bool, true, false, ◌&&◌, List, [], ◌∷◌, leb, ltb, eqb, length}
 use Rattle.std.specs.Prelude.{Option}
 use Rattle.model.specs.Limits.{longest_period, longest_time, longest_hyperperiod}
-use Rattle.model.specs.Machine.{Action, Machine, count, action_of, machine_of, divisor, hyperperiod}
+use Rattle.model.specs.declared.Action.{Action}
+use Rattle.model.specs.Machine.{Machine, count, action_of, machine_of, divisor, hyperperiod}
 use Rattle.model.specs.Search.{first_of}
 use Rattle.reply.specs.declared.Refusal.{Refusal}
 use Rattle.reply.specs.Reply.{refusal, unless, ◌or_else◌}

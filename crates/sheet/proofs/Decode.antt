@@ -5,7 +5,8 @@ use mathlib.Core.List.{List}
 use native.Mathlib.Omega.{arith}
 use native.Mathlib.Nat.{not-suc-le-zero, le_of_suc-le-suc}
 use lib.ListN.{length, get_or}
-use Rattle.model.specs.Machine.{Action, Machine, count, action_of, machine_of}
+use Rattle.model.specs.declared.Action.{Action}
+use Rattle.model.specs.Machine.{Machine, count, action_of, machine_of}
 use Rattle.sheet.specs.Format.{action_size, action_at, actions_at, entry, described, machines_from}
 use Rattle.sheet.specs.Format.{machine_count, decode}
 

@@ -1,7 +1,9 @@
 -- Document 01, "The sheet": what a list of bytes means. All numbers are unsigned, little-endian.
 use Rattle.std.specs.Prelude.{ℕ, zero, suc, ◌+◌, ◌-◌, ◌*◌, List, [], ◌∷◌, length, get_or, drop}
 use Rattle.number.specs.Little.{le16, le32}
-use Rattle.model.specs.Machine.{Action, Machine, action, machine}
+use Rattle.model.specs.declared.Action.{Action}
+use Rattle.model.specs.Machine.{Machine, action, machine}
+use Rattle.sheet.specs.declared.fields.EntryBytes.{EntryBytes}
 
 -- an action, 8 bytes: source state (1), sink state (1), period (2), execution time (2), relative deadline (2)
 abbrev pub action_size : ℕ
@@ -13,13 +15,6 @@ action_at b at = action (get_or b at 0) (get_or b (at + 1) 0) (le16 b (at + 2)) 
 -- a machine entry, 8 bytes: states (1), initial state (1), actions (1), a zero byte (1), offset of its first action (4)
 abbrev pub entry_size : ℕ
 entry_size = 8
-
-pub record EntryBytes : Type 0 where
-  pub states : ℕ
-  pub initial : ℕ
-  pub actions : ℕ
-  pub zero_byte : ℕ
-  pub offset : ℕ
 
 abbrev pub entry_at : List ℕ → ℕ → EntryBytes
 entry_at b at =

@@ -1,10 +1,9 @@
 -- What the contracts of inner functions cite, and no reader has to believe.
 use Rattle.std.specs.Prelude.{ℕ, ◌+◌, ◌*◌, ◌≤◌, ◌<◌, ◌≡◌, List, length}
 use Rattle.model.specs.Limits.{longest_period, longest_hyperperiod}
-use Rattle.model.specs.Machine.{Machine, count, action_of, machine_of, hyperperiod}
+use Rattle.model.specs.Machine.{count, action_of, machine_of, hyperperiod}
 use Rattle.model.specs.Sizes.{Between, Sizes}
-use Rattle.sheet.specs.declared.Entry.{Entry}
-use Rattle.sheet.specs.Format.{action_size, action_at, entry_size, entry, trailer_offset, machine_count}
+use Rattle.sheet.specs.Format.{action_size, entry_size, entry, trailer_offset, machine_count}
 use Rattle.sheet.specs.Format.{actions_before, decode}
 
 -- a sheet that rules 1 to 4 let through
@@ -45,29 +44,11 @@ pub record Counted (b : List ℕ) (machines h : ℕ) : Type 0 where
   pub count : machines ≡ machine_count b
   pub period : h ≡ hyperperiod (decode b)
 
--- the machine that an entry is of
-abbrev pub machine_at : List ℕ → Entry → Machine
-machine_at b e = machine_of (decode b) e.machine
-
--- e is the entry of a machine of b, a sheet that rules 1 to 6 let through
-pub record HasEntry (b : List ℕ) (e : Entry) : Type 0 where
+-- the entry of a machine of b, a sheet that rules 1 to 6 let through: the machine's number, its states and actions, and
+-- where its first action stands
+pub record HasEntry (b : List ℕ) (number states actions first : ℕ) : Type 0 where
   pub offsets : OffsetsKept b
-  pub known : e.machine < machine_count b
-  pub states : e.states ≡ (machine_at b e).states
-  pub actions : e.actions ≡ count (machine_at b e)
-  pub first : e.first ≡ (entry b e.machine).offset
-
--- of an accepted sheet
-pub record IsEntry (b : List ℕ) (e : Entry) : Type 0 where
-  pub accepted : Accepted b
-  pub has : HasEntry b e
-
--- its machine has an action j
-pub record HasAction (b : List ℕ) (e : Entry) (j : ℕ) : Type 0 where
-  pub has : HasEntry b e
-  pub below : j < count (machine_at b e)
-
--- which stands at `at`
-pub record StandsAt (b : List ℕ) (e : Entry) (j at : ℕ) : Type 0 where
-  pub inside : at + action_size ≤ length b
-  pub is : action_at b at ≡ action_of (machine_at b e) j
+  pub known : number < machine_count b
+  pub states_are : states ≡ (machine_of (decode b) number).states
+  pub actions_are : actions ≡ count (machine_of (decode b) number)
+  pub first_is : first ≡ (entry b number).offset

@@ -1,2 +1,3 @@
 pub mod Format
 pub mod Inside
+pub mod Meant

@@ -1,6 +1,7 @@
 use Rattle.std.proofs.Common.{ℕ, List, Bool, ◌≡◌, arith, ◌∙◌, refl, sym, ap}
 use mathlib.Core.Bool.{not}
-use Rattle.model.specs.Machine.{Action, Machine, count, machine_of}
+use Rattle.model.specs.declared.Action.{Action}
+use Rattle.model.specs.Machine.{Machine, count, machine_of}
 use Rattle.model.specs.Search.{first_of}
 use Rattle.model.proofs.Search.{clear_found, clear_more, clear_end}
 use Rattle.reply.proofs.Refusals.{broken_here, kept_here}
