@@ -1,4 +1,4 @@
-// Fields of a sheet, read where they stand: of the trailer, and of a machine's entry.
+// Fields of a sheet, read where they stand: of the trailer, of a machine's entry, and of an action.
 ghost use Rattle.std.specs.Prelude.{◌≡◌, ◌+◌, ◌*◌, ◌^◌, ◌≤◌, ◌<◌, length};
 ghost use Rattle.sheet.specs.Format.{trailer_offset, machine_count, entry, action_size, action_at};
 ghost use Rattle.sheet.specs.Inside.{TrailerKept};
