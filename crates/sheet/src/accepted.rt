@@ -69,7 +69,7 @@ impl Machine<'_> {
         requires { j < count (meant self.now) }
         ensures { result ≡ legal_cost (meant self.now) j }
     {
-        self.action(j).time
+        self.entry.cost(j)
     }
 
     // Whether t is an instant of action j.

@@ -19,6 +19,7 @@ pub struct Entry<'a> {
 impl<'a> Entry<'a> {
     ghost use Rattle.std.specs.Prelude.{◌≡◌, ◌<◌};
     ghost use Rattle.model.specs.Machine.{count, action_of, divisor};
+    ghost use Rattle.model.specs.Legal.{cost as legal_cost};
     ghost use Rattle.sheet.specs.Format.{machine_count};
     ghost use Rattle.sheet.specs.Inside.{OffsetsKept};
     ghost use Rattle.sheet.specs.Meant.{entry_meant};
@@ -44,6 +45,14 @@ impl<'a> Entry<'a> {
         ensures { result ≡ action_of (entry_meant self.now) j }
     {
         fields::action_at(self.sheet, self.first + fields::ACTION_SIZE * j)
+    }
+
+    // What a bound adds for action j.
+    pub fn cost(&self, j: usize) -> u32
+        requires { j < count (entry_meant self.now) }
+        ensures { result ≡ legal_cost (entry_meant self.now) j }
+    {
+        self.action(j).time
     }
 
     // The greatest common divisor of the machine's periods.
