@@ -15,13 +15,11 @@ use Rattle.reply.proofs.Unique.{handed_unique}
 -- too few bytes are left as they were
 pub unprinted : (room : ℕ) (text before : List ℕ) → length before < room
     → (0 ≡ printed_length room text before) × (before ≡ printed room text before)
-unfolding printed_length printed
 unprinted room text before lent = rw (lt-leb room (length before) lent) (refl, refl)
 
 -- a printed text lies within the lent bytes
 pub printed_within : (room : ℕ) (text before : List ℕ) {r : ℕ} {after : List ℕ} → r ≡ printed_length room text before
     → after ≡ printed room text before → r ≤ length after
-unfolding printed_length printed
 printed_within room text before {r} {after} e p =
     elim (dec_le room (length before)) [
       | yes l ↦

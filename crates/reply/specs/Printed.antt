@@ -5,11 +5,11 @@ use Rattle.reply.specs.declared.Reason.{Reason}
 use Rattle.reply.specs.Reply.{refusal_for}
 
 -- a text goes to the start of the lent bytes, where there are `room` of them at least: how many it takes
-unfoldable pub printed_length : ℕ → List ℕ → List ℕ → ℕ
+abbrev pub printed_length : ℕ → List ℕ → List ℕ → ℕ
 printed_length room text out = cond (leb room (length out)) (length text) 0
 
 -- what they then hold
-unfoldable pub printed : ℕ → List ℕ → List ℕ → List ℕ
+abbrev pub printed : ℕ → List ℕ → List ℕ → List ℕ
 printed room text out = cond (leb room (length out)) (text ++ drop (length text) out) out
 
 -- the refusal for the reason that is handed back, if one is
@@ -18,5 +18,5 @@ handed None = None
 handed (Some r) = Some (refusal_for r)
 
 -- the refusal that the text prints, if it prints one
-unfoldable pub printed_refusal : ℕ → Option Refusal → List ℕ → Option Refusal
+abbrev pub printed_refusal : ℕ → Option Refusal → List ℕ → Option Refusal
 printed_refusal room x out = cond (leb room (length out)) x None

@@ -1,14 +1,12 @@
-use Rattle.std.proofs.Common.{◌+◌, ◌-◌, ◌*◌, ◌≤◌, length, take}
-use Rattle.text.specs.Inside.{Put}
+use Rattle.std.proofs.Common.{◌≡◌, ◌+◌, ◌*◌, ◌≤◌, ◌++◌, take}
+use Rattle.arrayvec.specs.ArrayString.{array_string_len}
 use Rattle.text.specs.Text.{spaced}
 use Rattle.text.proofs.put_spaced.Given as goal
 
--- the first i numbers are put, each in eleven characters at most
-abbrev pub invariant-loop-i : goal.invariant-loop-i
-invariant-loop-i l =
-    (l.i ≤ length l.numbers)
-    × (l.next ≤ l.at + 11 * l.i)
-    × Put l.initial.out l.at (spaced (take l.i l.numbers)) l.next l.out
-
-abbrev pub decreases-loop-i : goal.decreases-loop-i
-decreases-loop-i l = length l.numbers - l.i
+-- the first numbers are put, each in eleven characters at most
+abbrev pub invariant-loop-number : goal.invariant-loop-number
+invariant-loop-number g l =
+    record {
+      says : l.text.bytes ≡ l.fn.text.bytes ++ spaced (take l.number-index l.numbers);
+      short : array_string_len l.text ≤ array_string_len l.fn.text + 11 * l.number-index;
+    }

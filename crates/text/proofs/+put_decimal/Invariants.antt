@@ -1,5 +1,0 @@
-use Rattle.text.proofs.+put_decimal.Given as goal
-
--- digit by digit
-abbrev pub decreases-put_decimal : goal.decreases-put_decimal
-decreases-put_decimal l = l.n
