@@ -1,48 +1,38 @@
 -- A refusal in words: the table's words for its number, and its place.
-use Rattle.std.specs.Prelude.{ℕ, cond, ◌||◌, List, [], ◌∷◌, ◌++◌, eqb, ltb}
+use Rattle.std.specs.Prelude.{ℕ, cond, ◌||◌, List, [], ◌∷◌, ◌++◌, ◌==◌, if◌then◌else◌, ltb, codes}
 use Rattle.reply.specs.declared.Refusal.{Refusal}
-use Rattle.text.specs.Text.{ascii, spaced}
+use Rattle.text.specs.Text.{spaced}
 
--- why a sheet is refused under number n
-unfoldable pub sheet_reason : ℕ → List ℕ
-sheet_reason n =
-    cond (eqb n 1) (ascii "the length is below 28 or above 2,124")
-    (cond (eqb n 2) (ascii "the last four bytes are not SFS1")
-    (cond (eqb n 3) (ascii "the machine count is 0 or above 8")
-    (cond (eqb n 4) (ascii "the entries and the trailer exceed the length, or the trailer's offset is wrong")
-    (cond (eqb n 5) (ascii "an entry has its states, initial state, actions or zero byte out of range")
-    (cond (eqb n 6)
-    (ascii "an entry's offset is wrong or, if there is no such machine, the actions do not end at the entries")
-    (cond (eqb n 7) (ascii "an action has a state, period or time out of range, or deadline 0")
-    (cond (eqb n 8) (ascii "a deadline is above the divisor of the machine's periods")
-    (cond (eqb n 9) (ascii "the hyperperiod H is above 1,024") []))))))))
-
--- why a question about an accepted sheet is refused under number n
-unfoldable pub question_reason : ℕ → List ℕ
-question_reason n =
-    cond (eqb n 10) (ascii "the machine asked for is not in the sheet")
-    (cond (eqb n 11) (ascii "the window runs backwards, is longer than 2,048 or ends after 1,000,000")
-    (cond (eqb n 12) (ascii "the lent output is too short")
-    (cond (eqb n 14) (ascii "the window holds more than 6 instants, for the plain reckoner") [])))
-
--- why, by the number
+-- why a call is refused under number n
 abbrev pub reason : ℕ → List ℕ
-reason n = cond (ltb n 10) (sheet_reason n) (question_reason n)
+reason n =
+    if n == 1 then codes "the length is below 28 or above 2,124" else (
+    if n == 2 then codes "the last four bytes are not SFS1" else (
+    if n == 3 then codes "the machine count is 0 or above 8" else (
+    if n == 4 then codes "the entries and the trailer exceed the length, or the trailer's offset is wrong" else (
+    if n == 5 then codes "an entry has its states, initial state, actions or zero byte out of range" else (
+    if n == 6 then
+    codes "an entry's offset is wrong or, if there is no such machine, the actions do not end at the entries" else (
+    if n == 7 then codes "an action has a state, period or time out of range, or deadline 0" else (
+    if n == 8 then codes "a deadline is above the divisor of the machine's periods" else (
+    if n == 9 then codes "the hyperperiod H is above 1,024" else (
+    if n == 10 then codes "the machine asked for is not in the sheet" else (
+    if n == 11 then codes "the window runs backwards, is longer than 2,048 or ends after 1,000,000" else (
+    if n == 12 then codes "the lent output is too short" else (
+    if n == 14 then codes "the window holds more than 6 instants, for the plain reckoner" else []))))))))))))
 
 -- where: 5 and 6 have a machine, 7 and 8 a machine and its action
 unfoldable pub place : Refusal → List ℕ
 place r =
     cond (ltb r.number 5 || ltb 8 r.number) []
-    (ascii ", at machine" ++ spaced (r.first ∷ [])
-    ++ cond (ltb r.number 7) [] (ascii ", action" ++ spaced (r.second ∷ [])))
+    (codes ", at machine" ++ spaced (r.first ∷ [])
+    ++ cond (ltb r.number 7) [] (codes ", action" ++ spaced (r.second ∷ [])))
+
+-- what is said of a refusal, up to the end of its line
+abbrev pub refused_words : Refusal → List ℕ
+refused_words r =
+    codes ": refused under" ++ spaced (r.number ∷ []) ++ codes ": " ++ reason r.number ++ place r ++ (10 ∷ [])
 
 -- the line of a program that was refused
-unfoldable pub explanation : List ℕ → Refusal → List ℕ
-explanation program r =
-    program
-    ++ ascii ": refused under"
-    ++ spaced (r.number ∷ [])
-    ++ ascii ": "
-    ++ reason r.number
-    ++ place r
-    ++ (10 ∷ [])
+abbrev pub explanation : List ℕ → Refusal → List ℕ
+explanation program r = program ++ refused_words r
