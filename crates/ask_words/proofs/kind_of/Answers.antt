@@ -1,49 +1,13 @@
-use Rattle.ask_words.proofs.Replies.{compared}
+use Rattle.std.proofs.Common.{arith, rules}
+use Rattle.std.specs.Prelude.{codes}
+use Rattle.std.proofs.lemmas.Slice.Eq.{text_from_reads}
 use Rattle.ask_words.proofs.kind_of.Goals as goal
 
-pub returns-then-same : goal.returns-then-same
-returns-then-same c = rw (compared _ _ _ c.same.ensures c.if-same.true)
+pub returns-in-demand : goal.returns-in-demand
+returns-in-demand c = rw (text_from_reads c.args.word.now (codes "demand") (omega arith) (search rules))
 
-pub returns-then-same-2 : goal.returns-then-same-2
-returns-then-same-2 c =
-    rw (
-      compared _ _ _ c.same.ensures c.if-same.false,
-      compared _ _ _ c.same-2.ensures c.if-same-2.true,
-    )
+pub returns-in-request : goal.returns-in-request
+returns-in-request c = rw (text_from_reads c.args.word.now (codes "request") (omega arith) (search rules))
 
-pub returns-then-same-3 : goal.returns-then-same-3
-returns-then-same-3 c =
-    rw (
-      compared _ _ _ c.same.ensures c.if-same.false,
-      compared _ _ _ c.same-2.ensures c.if-same-2.false,
-      compared _ _ _ c.same-3.ensures c.if-same-3.true,
-    )
-
-pub returns-then-same-4 : goal.returns-then-same-4
-returns-then-same-4 c =
-    rw (
-      compared _ _ _ c.same.ensures c.if-same.false,
-      compared _ _ _ c.same-2.ensures c.if-same-2.false,
-      compared _ _ _ c.same-3.ensures c.if-same-3.false,
-      compared _ _ _ c.same-4.ensures c.if-same-4.true,
-    )
-
-pub returns-then-same-5 : goal.returns-then-same-5
-returns-then-same-5 c =
-    rw (
-      compared _ _ _ c.same.ensures c.if-same.false,
-      compared _ _ _ c.same-2.ensures c.if-same-2.false,
-      compared _ _ _ c.same-3.ensures c.if-same-3.false,
-      compared _ _ _ c.same-4.ensures c.if-same-4.false,
-      compared _ _ _ c.same-5.ensures c.if-same-5.true,
-    )
-
-pub returns : goal.returns
-returns c =
-    rw (
-      compared _ _ _ c.same.ensures c.if-same.false,
-      compared _ _ _ c.same-2.ensures c.if-same-2.false,
-      compared _ _ _ c.same-3.ensures c.if-same-3.false,
-      compared _ _ _ c.same-4.ensures c.if-same-4.false,
-      compared _ _ _ c.same-5.ensures c.if-same-5.false,
-    )
+pub returns-in-critical : goal.returns-in-critical
+returns-in-critical c = rw (text_from_reads c.args.word.now (codes "critical") (omega arith) (search rules))
