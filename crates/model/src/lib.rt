@@ -2,6 +2,9 @@
 // theorems, in proofs/.
 #![tactic(auto)]
 
+ghost use Rattle.std.specs.Prelude.{◌≡◌};
+ghost use Rattle.model.specs.Inside.{behind, ahead};
+
 // A window is no longer. These five are those of specs/Limits.antt.
 pub const LONGEST_WINDOW: u32 = 2048;
 
@@ -32,4 +35,16 @@ pub struct Action {
 pub enum Way {
     On,
     Back,
+}
+
+impl Way {
+    // The state of an action that a walk leaves, and the one that it comes to.
+    pub fn ends(self, action: &Action) -> (usize, usize)
+        ensures { (result.0 ≡ behind self action.now) × (result.1 ≡ ahead self action.now) }
+    {
+        match self {
+            Way::On => (action.source, action.sink),
+            Way::Back => (action.sink, action.source),
+        }
+    }
 }

@@ -1,14 +1,14 @@
 -- What the walk over the ticks speaks of: the mask of a tick, and a row with a tick, walked on or back.
 -- Nothing here is needed to read a public contract.
 use Rattle.std.specs.Prelude.{ℕ, zero, suc, ◌+◌, ◌*◌, ◌^◌, ◌≤◌, ◌<◌, max, ◌≡◌, Bool, true, false, cond, List, leb, length, get_or, set}
+use Rattle.std.specs.Int.{bit_at}
 use Rattle.model.specs.declared.Way.{Way}
 use Rattle.model.specs.declared.Way.TheVariants.{On}
 use Rattle.model.specs.Machine.{Machine, count, action_of}
 use Rattle.model.specs.Legal.{cost, requested}
 use Rattle.model.specs.Reckon.{most}
-use Rattle.model.specs.Inside.{may_trigger, behind, ahead, figure, IsRow, IsMoved, LastInstant, due_then}
-use Rattle.sheet.specs.declared.Entry.{Entry}
-use Rattle.sheet.specs.Inside.{machine_at, HasAction}
+use Rattle.model.specs.Inside.{may_trigger, behind, ahead, figure, IsRow, IsMoved, LastInstant as IsLastInstant, due_then}
+use Rattle.walk.specs.declared.LastInstant.{LastInstant}
 
 -- a test as a binary digit
 unfoldable pub bit : Bool → ℕ
@@ -32,6 +32,13 @@ pub record AllMarked (m : Machine) (from : ℕ) (masks : List ℕ) : Type 0 wher
 pub record WindowMarked (m : Machine) (from n : ℕ) (masks : List ℕ) : Type 0 where
   pub at : (k : ℕ) → k ≤ n → Marks m (from + k) (get_or masks k 0)
 
+-- digit j is the lowest 1 of `left`, and `others` has the same digits without it
+pub record Lowest (left j others : ℕ) : Type 0 where
+  pub one : bit_at left j ≡ 1
+  pub lowest : (i : ℕ) → i < j → bit_at left i ≡ 0
+  pub taken : bit_at others j ≡ 0
+  pub kept : (i : ℕ) → (i ≡ j → ⊥) → bit_at others i ≡ bit_at left i
+
 -- a mask of some tick, and figures so small that a cost may be added
 pub record Ready (m : Machine) (mask : ℕ) (row : List ℕ) : Type 0 where
   pub tick : ℕ
@@ -42,13 +49,13 @@ pub record Ready (m : Machine) (mask : ℕ) (row : List ℕ) : Type 0 where
 abbrev pub brought : Way → Machine → ℕ → List ℕ → ℕ
 brought way m k row = figure row (behind way (action_of m k)) + cost m k
 
--- action j of an entry's machine joins two states of a row, and what it brings fits a word
-pub record Joins (b : List ℕ) (e : Entry) (j : ℕ) (row : List ℕ) : Type 0 where
-  pub action : HasAction b e j
+-- action j of a machine joins two states of a row, and what it brings fits a word
+pub record Joins (m : Machine) (j : ℕ) (row : List ℕ) : Type 0 where
+  pub below : j < count m
   pub long : 16 ≤ length row
-  pub leaves : (way : Way) → behind way (action_of (machine_at b e) j) < 16
-  pub reaches : (way : Way) → ahead way (action_of (machine_at b e) j) < 16
-  pub fits : (way : Way) → brought way (machine_at b e) j row < 2 ^ 32
+  pub leaves : (way : Way) → behind way (action_of m j) < 16
+  pub reaches : (way : Way) → ahead way (action_of m j) < 16
+  pub fits : (way : Way) → brought way m j row < 2 ^ 32
 
 -- the row, raised at the state that action k leads to, where the figures before the tick are `old`
 abbrev pub pushed : Way → Machine → ℕ → List ℕ → List ℕ → List ℕ
@@ -65,11 +72,11 @@ pub record Ticked (way : Way) (m : Machine) (mask : ℕ) (old new : List ℕ) : 
   pub moved : (t : ℕ) → Marks m t mask → IsMoved way m (requested m) t old new
   pub long : length new ≡ 16
 
--- the mask and the row of s + k, the last instant before s + n
-pub record Last (m : Machine) (s n k mask : ℕ) (row : List ℕ) : Type 0 where
-  pub last : LastInstant m s n k
-  pub marks : Marks m (s + k) mask
-  pub figures : IsRow m (requested m) s k row
+-- the last instant before s + n is that many ticks from s, with that mask and the row before it
+pub record Last (m : Machine) (s n : ℕ) (last : LastInstant) : Type 0 where
+  pub last : IsLastInstant m s n last.ticks
+  pub marks : Marks m (s + last.ticks) last.mask
+  pub figures : IsRow m (requested m) s last.ticks last.row
 
 -- v is the largest figure, or what an action brings that is due within `ticks` ticks of the tick that the mask marks
 pub record DueWithin (m : Machine) (mask : ℕ) (row : List ℕ) (ticks v : ℕ) : Type 0 where
