@@ -1,12 +1,13 @@
--- The binary digits of a mask, as a loop takes them off or puts them on.
-use Prim.Native.Nat.{ℕ, zero, suc, ◌+◌, ◌-◌, ◌*◌, ◌/◌, ◌%◌, ◌^◌, ◌≤◌, ◌<◌}
-use mathlib.Core.Path.{◌≡◌, refl, sym, ◌∙◌, ap, ap₂}
+-- The binary digits of a mask, and a loop that puts them on one by one.
+use Prim.Native.Nat.{ℕ, zero, suc, ◌+◌, ◌-◌, ◌*◌, ◌/◌, ◌^◌, ◌≤◌, ◌<◌}
+use mathlib.Core.Path.{◌≡◌, refl, ◌∙◌, ap, ap₂}
 use mathlib.Core.Bool.{Bool, true, false}
 use mathlib.Core.Logic.{⊎_elim}
 use native.Mathlib.Omega.{arith}
-use native.Mathlib.Nat.{eq-or-lt_of_le, pow-suc}
-use native.Mathlib.Decide.{dec_lt}
+use native.Mathlib.Nat.{pow-suc}
 use lib.Pow.{pow_mono}
+use Rattle.std.specs.Int.{bit_at}
+use Rattle.std.proofs.lemmas.Nat.Bits.{bit_at_lowest, bit_at-suc}
 use Rattle.model.proofs.Tests.{true_or_false}
 use Rattle.walk.specs.Inside.{bit, binary}
 
@@ -15,22 +16,36 @@ unfolding bit
 bit_limit true = omega arith
 bit_limit false = omega arith
 
-bit_true : (b : Bool) → bit b ≡ 1 → b ≡ true
+pub bit_true : (b : Bool) → bit b ≡ 1 → b ≡ true
 unfolding bit
 bit_true true e = refl
 bit_true false e = absurd (omega arith)
 
-bit_false : (b : Bool) → (bit b ≡ 1 → ⊥) → b ≡ false
+pub bit_false : (b : Bool) → bit b ≡ 0 → b ≡ false
 unfolding bit
-bit_false true h = absurd (h refl)
-bit_false false h = refl
+bit_false true e = absurd (omega arith)
+bit_false false e = refl
 
 module _ (f : ℕ → Bool) where
-  binary_limit : (j n : ℕ) → binary f j n < 2 ^ n
+  pub binary_limit : (j n : ℕ) → binary f j n < 2 ^ n
   unfolding binary
   binary_limit j zero = omega arith
   binary_limit j (suc n) =
       omega (arith, bit_limit (f j), binary_limit (suc j) n, pow-suc 2 n)
+
+  -- its digits are the tests
+  pub binary_digit : (j n i : ℕ) → i < n → bit_at (binary f j n) i ≡ bit (f (j + i))
+  unfolding binary
+  binary_digit j zero i l = absurd (omega arith)
+  binary_digit j (suc n) zero l =
+      let e : j + 0 ≡ j = omega arith in
+      bit_at_lowest (binary f j (suc n)) ∙ rw e (omega (arith, bit_limit (f j)))
+  binary_digit j (suc n) (suc i) l =
+      let half : binary f j (suc n) / 2 ≡ binary f (suc j) n = omega (arith, bit_limit (f j)) in
+      let e : j + suc i ≡ suc j + i = omega arith in
+      bit_at-suc (binary f j (suc n)) i
+      ∙ ap (λ x. bit_at x i) half
+      ∙ rw e (binary_digit (suc j) n i (omega arith))
 
   pub binary_cong : (g : ℕ → Bool) (j n : ℕ) → ((k : ℕ) → k < j + n → f k ≡ g k) → binary f j n ≡ binary g j n
   unfolding binary
@@ -43,14 +58,6 @@ module _ (f : ℕ → Bool) where
   binary_none j zero h = refl
   binary_none j (suc n) h =
       rw (h j (omega arith)) (omega (arith, binary_none (suc j) n (λ k l. h k (omega arith))))
-
-  pub binary_zero : (j n k : ℕ) → binary f j n ≡ 0 → j ≤ k → k < j + n → f k ≡ false
-  unfolding binary
-  binary_zero j zero k e a b = absurd (omega arith)
-  binary_zero j (suc n) k e a b =
-      ⊎_elim (λ q. ap f (sym q) ∙ bit_false (f j) (λ z. absurd (omega arith)))
-      (λ l. binary_zero (suc j) n k (omega arith) l (omega arith))
-      (eq-or-lt_of_le a)
 
   pub binary_some : (j n : ℕ) → (binary f j n ≡ 0 → ⊥) → (k : ℕ) × (k < j + n) × (f k ≡ true)
   unfolding binary bit
@@ -87,32 +94,3 @@ module _ {f : ℕ → Bool} {n : ℕ} where
   left_whole {j} {left} h l =
       let whole : n - 0 ≡ n = omega arith in
       rw (let z : j ≡ 0 = omega arith in z, whole) at h.is
-
-  -- all, and one off
-  pub left_begin : {mask : ℕ} → mask ≡ binary f 0 n → Left f n 0 mask
-  left_begin e = record { early = omega arith; is = rw (let z : n - 0 ≡ n = omega arith in z) e }
-
-  pub left_more : {j left : ℕ} → Left f n j left → (left ≡ 0 → ⊥) → j < n
-  unfolding binary
-  left_more {j} {left} h some =
-      let none : n - j ≡ 0 → left ≡ 0 = λ z. rw z at h.is in
-      elim (dec_lt j n) [ yes l ↦ l | no l ↦ absurd (some (none (omega (arith, h.early)))) ]
-
-  module _ {j left : ℕ} (h : Left f n j left) (l : j < n) where
-    halved : left ≡ bit (f j) + 2 * binary f (suc j) (n - suc j)
-    unfolding binary
-    halved = h.is ∙ rw (let z : n - j ≡ suc (n - suc j) = omega arith in z) refl
-
-    pub left_next : Left f n (j + 1) (left / 2)
-    left_next =
-        let next : j + 1 ≡ suc j = omega arith in
-        rw next (record { early = l; is = omega (arith, halved, bit_limit (f j)) })
-
-    pub left_one : left % 2 ≡ 1 → f j ≡ true
-    left_one e = bit_true (f j) (omega (arith, halved, bit_limit (f j)))
-
-    pub left_other : (left % 2 ≡ 1 → ⊥) → f j ≡ false
-    left_other d = bit_false (f j) (λ e. d (omega (arith, halved)))
-
-  pub left_none : {j left : ℕ} → Left f n j left → left ≡ 0 → (k : ℕ) → j ≤ k → k < n → f k ≡ false
-  left_none {j} h e k a b = binary_zero f j (n - j) k (sym h.is ∙ e) a (omega (arith, h.early))

@@ -14,6 +14,7 @@ use Rattle.model.specs.Inside.{largest_cost, figure, IsRow}
 use Rattle.model.proofs.Accepted.{sizes_cost, sizes_closed, sizes_separate}
 use Rattle.model.proofs.Row.{row_start, row_moved, row_request, row_limit}
 use Rattle.model.proofs.Demand.{demand_front, last_start, last_here, last_stays}
+use Rattle.walk.specs.declared.LastInstant.{LastInstant}
 use Rattle.walk.specs.Inside.{Marks, Ready, Ticked, Last, DueWithin}
 use Rattle.walk.proofs.Mask.{marks_none, marks_some, unseen_begin, most_begin, most_end}
 use Rattle.walk.proofs.Row.{brings_idle}
@@ -41,7 +42,7 @@ module _ {m : Machine} (sizes : MachineSizes m) {s n : ℕ} {row : List ℕ} (h 
   pub row_idle : {mask : ℕ} → Marks m (s + n) mask → mask ≡ 0 → IsRow m (requested m) s (n + 1) row
   row_idle g e =
       row_moved m (requested m) s (sizes_closed m sizes) n row row h
-      (record { at = λ q l. most_end most_begin unseen_begin e (brings_idle On m (figure row) q) (s + n) g })
+      (record { at = λ q l. most_end (brings_idle On m (figure row) q) most_begin unseen_begin e (s + n) g })
 
   -- its largest figure is the request bound
   pub row_top : {states v : ℕ} → states ≡ m.states → v ≡ most states (figure row) → v ≡ request m s n
@@ -50,24 +51,28 @@ module _ {m : Machine} (sizes : MachineSizes m) {s n : ℕ} {row : List ℕ} (h 
 -- the last instant, as a loop over the ticks keeps it
 module _ {m : Machine} {s : ℕ} where
   pub last_begin : {mask : ℕ} {row : List ℕ} → Marks m (s + 0) mask → IsRow m (requested m) s 0 row
-      → Last m s 0 0 mask row
-  last_begin g h = record { last = last_start m s; marks = g; figures = h }
+      → Last m s 0 (record { ticks = 0; mask = mask; row = row })
+  last_begin g h = record { is = last_start m s; marks = g; figures = h }
 
   pub last_instant : {n mask : ℕ} {row : List ℕ} → Marks m (s + n) mask → (mask ≡ 0 → ⊥) → IsRow m (requested m) s n row
-      → Last m s (n + 1) n mask row
+      → Last m s (n + 1) (record { ticks = n; mask = mask; row = row })
   last_instant {n} g some h =
       let (j, l, i) = marks_some g some in
-      record { last = last_here m s n j l i; marks = g; figures = h }
+      record { is = last_here m s n j l i; marks = g; figures = h }
 
-  pub last_none : {n k mask now : ℕ} {row : List ℕ} → Last m s n k mask row → Marks m (s + n) now → now ≡ 0
-      → Last m s (n + 1) k mask row
-  last_none {n} {k} h g e =
-      record { last = last_stays m s n k h.last (marks_none (rw e at g)); marks = h.marks; figures = h.figures }
+  module _ {n : ℕ} {last : LastInstant} (h : Last m s n last) where
+    pub last_none : {now : ℕ} → Marks m (s + n) now → now ≡ 0 → Last m s (n + 1) last
+    last_none g e =
+        record { is = last_stays m s n last.ticks h.is (marks_none (rw e at g)); marks = h.marks; figures = h.figures }
 
-  -- the demand bound is what is due within the ticks that are left
-  pub last_demand : MachineSizes m → {n k mask ticks v : ℕ} {row : List ℕ} → Last m s n k mask row → k + ticks ≡ n
-      → DueWithin m mask row ticks v → v ≡ demand m s n
-  last_demand sizes {n} {k} {mask} {ticks} {v} {row} h e due =
-      due.is (s + k) h.marks
-      ∙ sym (rw (let z : s + n ≡ s + k + ticks = omega arith in z) at
-      (demand_front m (sizes_closed m sizes) (sizes_separate m sizes) s n k row h.last h.figures))
+    -- it is ready for what is due
+    pub last_ready : MachineSizes m → last.ticks ≤ last_tick → Ready m last.mask last.row
+    last_ready sizes l = row_ready sizes h.figures l h.marks
+
+    -- the demand bound is what is due within the ticks that are left
+    pub last_demand : MachineSizes m → {ticks v : ℕ} → last.ticks + ticks ≡ n → DueWithin m last.mask last.row ticks v
+        → v ≡ demand m s n
+    last_demand sizes {ticks} {v} e due =
+        due.is (s + last.ticks) h.marks
+        ∙ sym (rw (let z : s + n ≡ s + last.ticks + ticks = omega arith in z) at
+        (demand_front m (sizes_closed m sizes) (sizes_separate m sizes) s n last.ticks last.row h.is h.figures))

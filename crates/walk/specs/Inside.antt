@@ -74,7 +74,7 @@ pub record Ticked (way : Way) (m : Machine) (mask : ℕ) (old new : List ℕ) : 
 
 -- the last instant before s + n is that many ticks from s, with that mask and the row before it
 pub record Last (m : Machine) (s n : ℕ) (last : LastInstant) : Type 0 where
-  pub last : IsLastInstant m s n last.ticks
+  pub is : IsLastInstant m s n last.ticks
   pub marks : Marks m (s + last.ticks) last.mask
   pub figures : IsRow m (requested m) s last.ticks last.row
 

@@ -13,7 +13,6 @@ ghost use Rattle.walk.specs.Inside.{due_or, DueWithin, brought as way_brought};
 mod marked;
 
 pub use marked::Marked;
-
 use model::{LONGEST_WINDOW, Way};
 use sheet::Machine;
 

@@ -1,0 +1,20 @@
+use Rattle.std.proofs.Common.{rules, refl}
+use Rattle.sheet.proofs.Entries.{meant_sizes}
+use Rattle.walk.proofs.Mask.{unseen_one}
+use Rattle.walk.proofs.Row.{joins, ticking_begin, ticking_push, ticking_end}
+use Rattle.walk.proofs.tick.Goals as goal
+
+pub loop-j-init : goal.loop-j-init
+loop-j-init c = rw c.into_iter-j-iterator.ensures.into_iter_gives (ticking_begin (search rules))
+
+pub push-requires : goal.push-requires
+push-requires c =
+    let known = (unseen_one c.loop-j.invariant.others c.in-Some.ensures.steps c.requires.marks).0 in
+    joins (meant_sizes c.args.machine.now) known _ (search rules) c.requires.small
+
+pub loop-j-preserved : goal.loop-j-preserved
+loop-j-preserved c =
+    ticking_push c.loop-j.invariant (meant_sizes c.args.machine.now) c.in-Some.ensures.steps c.push.ensures
+
+pub returns : goal.returns
+returns c = ticking_end c.loop-j.invariant c.in-None.ensures.steps
