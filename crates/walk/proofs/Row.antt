@@ -1,15 +1,16 @@
 -- One action's part in a tick, and what the walk makes of a row.
-use Prim.Native.Nat.{ℕ, ◌+◌, ◌/◌, ◌%◌, ◌^◌, ◌≤◌, ◌<◌, max}
+use Prim.Native.Nat.{ℕ, ◌+◌, ◌^◌, ◌≤◌, ◌<◌, max}
 use mathlib.Core.Path.{◌≡◌, refl, sym, ◌∙◌, ap, ap₂}
 use mathlib.Core.Bool.{true, false, cond}
 use mathlib.Core.List.{List}
 use native.Mathlib.Omega.{arith}
-use native.Mathlib.Nat.{max-eq_left, max-eq_right, le_of_lt}
+use native.Mathlib.Numerals.{add-one}
 use native.Mathlib.Decide.{ℕ_discrete}
 use lib.Dec.{eqb}
-use lib.ListN.{length, set, length-set}
-use lib.Seq.{get_or-set_same, get_or-set_other, set-get_or}
-use borrow.Author.Tests.{eq-eqb, ne_eqb, le-leb, lt-leb}
+use lib.ListN.{length, take, set, length-set}
+use lib.Seq.{get_or-set_same, get_or-set_other}
+use borrow.Author.Tests.{eq-eqb, ne_eqb, le-leb}
+use Rattle.std.proofs.lemmas.List.{get_or-take}
 use Rattle.model.specs.declared.Way.{Way}
 use Rattle.model.specs.declared.Way.TheVariants.{On, Back}
 use Rattle.model.specs.declared.Action.{Action}
@@ -24,6 +25,12 @@ use Rattle.model.proofs.Accepted.{sizes_cost}
 use Rattle.walk.specs.Inside.{Lowest, Joins, brought, pushed, due_or, Ticked, DueWithin}
 use Rattle.walk.proofs.Mask.{Unseen, unseen_begin, unseen_one, unseen_next}
 use Rattle.walk.proofs.Mask.{Most, most_begin, most_more, most_end}
+
+-- the largest of one figure more
+pub top_more : (row : List ℕ) (states k : ℕ) {top v : ℕ} → k < states → top ≡ most k (figure row)
+    → v ≡ max top (figure (take states row) k) → v ≡ most (k + 1) (figure row)
+unfolding most
+top_more row states k l e f = rw add-one (f ∙ ap₂ max e (get_or-take states row k 0 l))
 
 -- both ends of an action are states
 module _ {m : Machine} (sizes : MachineSizes m) {k : ℕ} (l : k < count m) where

@@ -112,7 +112,7 @@ pub fn top(row: &Row, states: usize) -> u32
     requires { states ≤ 16 }
     ensures { result ≡ most states (figure row.now) }
 {
-    let mut top = 0;
+    let mut top: u32 = 0;
     for &figure in &row[..states] {
         top = top.max(figure);
     }

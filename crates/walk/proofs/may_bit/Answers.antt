@@ -1,4 +1,4 @@
-use Rattle.std.proofs.Common.{sym, ◌∙◌, ap}
+use Rattle.std.proofs.Common.{◌∙◌, ap}
 use Rattle.model.proofs.Accepted.{sizes_may}
 use Rattle.sheet.proofs.Entries.{meant_sizes}
 use Rattle.walk.specs.Inside.{bit}

@@ -1,4 +1,4 @@
-use Rattle.std.proofs.Common.{rules, refl}
+use Rattle.std.proofs.Common.{rules}
 use Rattle.sheet.proofs.Entries.{meant_sizes}
 use Rattle.walk.proofs.Mask.{unseen_one}
 use Rattle.walk.proofs.Row.{joins, ticking_begin, ticking_push, ticking_end}
