@@ -1,13 +1,15 @@
 -- What the walk over the ticks speaks of: the mask of a tick, and a row with a tick, walked on or back.
 -- Nothing here is needed to read a public contract.
-use Rattle.std.specs.Prelude.{ℕ, zero, suc, ◌+◌, ◌*◌, ◌^◌, ◌≤◌, ◌<◌, max, ◌≡◌, Bool, true, false, cond, List, leb, length, get_or, set}
+use Rattle.std.specs.Prelude.{ℕ, zero, suc, ◌+◌, ◌*◌, ◌^◌, ◌≤◌, ◌<◌, max, ◌≡◌}
+use Rattle.std.specs.Prelude.{Bool, true, false, cond, leb, List, length, get_or, set}
 use Rattle.std.specs.Int.{bit_at}
 use Rattle.model.specs.declared.Way.{Way}
 use Rattle.model.specs.declared.Way.TheVariants.{On}
 use Rattle.model.specs.Machine.{Machine, count, action_of}
 use Rattle.model.specs.Legal.{cost, requested}
 use Rattle.model.specs.Reckon.{most}
-use Rattle.model.specs.Inside.{may_trigger, behind, ahead, figure, IsRow, IsMoved, LastInstant as IsLastInstant, due_then}
+use Rattle.model.specs.Inside.{may_trigger, behind, ahead, figure, IsRow, IsMoved, due_then}
+use Rattle.model.specs.Inside.{LastInstant as IsLastInstant}
 use Rattle.walk.specs.declared.LastInstant.{LastInstant}
 
 -- a test as a binary digit

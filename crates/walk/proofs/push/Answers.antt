@@ -12,5 +12,6 @@ overflow_add-old c =
 pub returns : goal.returns
 returns c =
     let a = c.args in
+    let m = meant a.machine.now in
     let (behind, ahead) = c.ends-behind.ensures in
-    rw c.max.ensures (pushed_is a.way (meant a.machine.now) a.j a.old.now a.row.now c.action-action.ensures behind ahead)
+    rw c.max.ensures (pushed_is a.way m a.j a.old.now a.row.now c.action-action.ensures behind ahead)
