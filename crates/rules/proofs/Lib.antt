@@ -1,3 +1,5 @@
 pub mod Tests
+pub mod Limited
 pub mod Accepted
+pub mod Stages
 pub mod Replies

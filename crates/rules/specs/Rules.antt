@@ -7,7 +7,8 @@ use Rattle.model.specs.Machine.{Machine, count, action_of, machine_of, divisor, 
 use Rattle.model.specs.Search.{first_of}
 use Rattle.reply.specs.declared.Refusal.{Refusal}
 use Rattle.reply.specs.Reply.{refusal, unless, ◌or_else◌}
-use Rattle.sheet.specs.Format.{action_size, entry_size, EntryBytes, entry, actions_before}
+use Rattle.sheet.specs.declared.fields.EntryBytes.{EntryBytes}
+use Rattle.sheet.specs.Format.{action_size, entry_size, entry, actions_before}
 use Rattle.sheet.specs.Format.{trailer_offset, machine_count, last_four, sfs1, decode}
 
 -- tests: from low to high, and the same bytes in the same order

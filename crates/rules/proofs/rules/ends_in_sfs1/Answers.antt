@@ -1,5 +1,6 @@
-use Rattle.rules.proofs.Tests.{sfs1_same}
+use Rattle.std.proofs.Common.{◌∙◌}
+use Rattle.rules.proofs.Tests.{same_pointwise}
 use Rattle.rules.proofs.rules.ends_in_sfs1.Goals as goal
 
 pub returns : goal.returns
-returns c = sfs1_same c.args.sheet.now _ c.requires c.same.ensures
+returns c = c.ends_with.ensures.value ∙ same_pointwise _ _

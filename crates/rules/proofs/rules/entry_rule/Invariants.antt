@@ -1,10 +1,6 @@
-use Rattle.std.proofs.Common.{◌-◌, ◌≤◌}
 use Rattle.model.proofs.Search.{Clear}
 use Rattle.rules.specs.Rules.{entry_refusal}
 use Rattle.rules.proofs.rules.entry_rule.Given as goal
 
 abbrev pub invariant-loop-k : goal.invariant-loop-k
-invariant-loop-k l = (l.k ≤ l.machines) × Clear (entry_refusal l.sheet) l.k
-
-abbrev pub decreases-loop-k : goal.decreases-loop-k
-decreases-loop-k l = l.machines - l.k
+invariant-loop-k l = Clear (entry_refusal l.sheet) l.k

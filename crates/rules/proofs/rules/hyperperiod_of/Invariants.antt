@@ -1,4 +1,3 @@
-use Rattle.std.proofs.Common.{◌-◌, ◌≤◌}
 use Rattle.model.specs.Limits.{longest_hyperperiod}
 use Rattle.model.specs.Machine.{hyperperiod}
 use Rattle.model.specs.Sizes.{Between}
@@ -8,8 +7,4 @@ use Rattle.rules.proofs.rules.hyperperiod_of.Given as goal
 
 abbrev pub invariant-loop-k : goal.invariant-loop-k
 invariant-loop-k l =
-    (l.k ≤ l.machines) × Between 1 longest_hyperperiod l.h
-    × Gathering (decode l.sheet) l.h l.k (hyperperiod (decode l.sheet))
-
-abbrev pub decreases-loop-k : goal.decreases-loop-k
-decreases-loop-k l = l.machines - l.k
+    record { in_range : Between 1 longest_hyperperiod l.h; gathering : Gathering (decode l.sheet) l.h l.k (hyperperiod (decode l.sheet)) }
