@@ -3,31 +3,30 @@
 // 64 characters is none.
 #![tactic(auto)]
 
-use reply::{Asked, Question};
-use terminal::Input;
+use arrayvec::ArrayVec;
+use reply::Question;
 
 fn main(rt: HostRuntime) {
-    let mut name = [0u8; 64];
-    let named = terminal::word(&rt, 1, &mut name);
-    let mut machine = [0u8; 64];
-    let number = terminal::word(&rt, 2, &mut machine);
-    let mut from = [0u8; 64];
-    let start = terminal::word(&rt, 3, &mut from);
-    let mut to = [0u8; 64];
-    let end = terminal::word(&rt, 4, &mut to);
-    // one more than the words of a question, so that more are seen to be too many
-    let words = terminal::word_count(&rt, 6);
     let asked = saglubitan::asked_by(
-        words,
-        &name[..named],
-        &machine[..number],
-        &from[..start],
-        &to[..end],
+        // one more than the words of a question, so that more are seen to be too many
+        terminal::word_count(&rt, 6),
+        word(&rt, 1).as_slice(),
+        word(&rt, 2).as_slice(),
+        word(&rt, 3).as_slice(),
+        word(&rt, 4).as_slice(),
     );
     match asked {
-        Asked::This(question) => answer(&rt, question),
-        Asked::Nothing => say_usage(&rt),
+        Some(question) => answer(&rt, question),
+        None => say_usage(&rt),
     }
+}
+
+fn word(rt: &HostRuntime, at: usize) -> ArrayVec<u8, 64> {
+    let mut room = [0; 64];
+    let length = terminal::word(rt, at, &mut room);
+    let mut word = ArrayVec::from(room);
+    word.truncate(length);
+    word
 }
 
 fn say_usage(rt: &HostRuntime) {
@@ -44,18 +43,17 @@ fn say_usage(rt: &HostRuntime) {
 
 fn answer(rt: &HostRuntime, question: Question) {
     let mut bytes = terminal::sheet_room();
-    let input = terminal::read_sheet(&mut rt.stdin(), &mut bytes);
-    match input {
-        Input::Bytes(used) => print(rt, &bytes[..used], question),
-        Input::Failed => terminal::say(&mut rt.stderr(), b"ask: cannot read standard input\n"),
+    match terminal::read_sheet(&mut rt.stdin(), &mut bytes) {
+        Ok(used) => print(rt, &bytes[..used], question),
+        Err(_) => terminal::say(&mut rt.stderr(), b"ask: cannot read standard input\n"),
     }
 }
 
 fn print(rt: &HostRuntime, sheet: &[u8], question: Question) {
-    let mut out = [0u8; 65536];
+    let mut out = [0; 65536];
     let printed = saglubitan::ask(sheet, question, &mut out);
-    let length = printed.length;
+    let text = &out[..printed.length];
     let failure = b"ask: cannot write standard output\n";
-    terminal::print(&mut rt.stdout(), &mut rt.stderr(), &out[..length], failure);
-    terminal::say_refusal(&mut rt.stderr(), b"ask", printed.refusal);
+    terminal::print(&mut rt.stdout(), &mut rt.stderr(), text, failure);
+    terminal::say_refusal(&mut rt.stderr(), b"ask", printed.refused);
 }

@@ -1,7 +1,9 @@
-// Sheets written byte by byte, right or wrong, for the vectors to be run on.
+// What the programs that run vectors share: sheets written byte by byte, right or wrong, and the words for a refusal.
 #![tactic(auto)]
 
 use arrayvec::ArrayVec;
+use reply::{Reason, Refusal};
+use std::fmt;
 
 // The bytes of a sheet so far. Bytes past the room are dropped: no vector is that long.
 #[derive(Drop)]
@@ -94,5 +96,20 @@ impl Draft {
     pub fn cut(mut self, length: usize) -> Draft {
         self.bytes.truncate(length);
         self
+    }
+}
+
+// A refusal as a line has it.
+#[derive(Clone, Copy)]
+pub struct Refused(pub Reason);
+
+impl fmt::Display for Refused {
+    fn fmt<W: fmt::Write>(&self, f: &mut fmt::Formatter<W>) -> fmt::Result {
+        let Refusal {
+            number,
+            first,
+            second,
+        } = self.0.into();
+        write!(f, "refused {number} {first} {second}")
     }
 }

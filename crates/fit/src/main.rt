@@ -2,26 +2,23 @@
 // REFUSED with number and place, whose words go to standard error.
 #![tactic(auto)]
 
-use terminal::Input;
-
 fn main(rt: HostRuntime) {
     if 1 < terminal::word_count(&rt, 2) {
         terminal::say(&mut rt.stderr(), b"usage: fit < SHEET\n");
         return;
     }
     let mut bytes = terminal::sheet_room();
-    let input = terminal::read_sheet(&mut rt.stdin(), &mut bytes);
-    match input {
-        Input::Bytes(used) => print(&rt, &bytes[..used]),
-        Input::Failed => terminal::say(&mut rt.stderr(), b"fit: cannot read standard input\n"),
+    match terminal::read_sheet(&mut rt.stdin(), &mut bytes) {
+        Ok(used) => print(&rt, &bytes[..used]),
+        Err(_) => terminal::say(&mut rt.stderr(), b"fit: cannot read standard input\n"),
     }
 }
 
 fn print(rt: &HostRuntime, sheet: &[u8]) {
-    let mut out = [0u8; 512];
+    let mut out = [0; 512];
     let printed = saglubitan::fit(sheet, &mut out);
-    let length = printed.length;
+    let text = &out[..printed.length];
     let failure = b"fit: cannot write standard output\n";
-    terminal::print(&mut rt.stdout(), &mut rt.stderr(), &out[..length], failure);
-    terminal::say_refusal(&mut rt.stderr(), b"fit", printed.refusal);
+    terminal::print(&mut rt.stdout(), &mut rt.stderr(), text, failure);
+    terminal::say_refusal(&mut rt.stderr(), b"fit", printed.refused);
 }

@@ -7,6 +7,6 @@ use Rattle.fit.proofs.print.Goals as goal
 pub slice_bounds-out-end : goal.slice_bounds-out-end
 slice_bounds-out-end c = printed_within _ _ _ c.fit-printed.ensures.size c.fit-printed.ensures.writes
 
-pub slice_bounds-print-end : goal.slice_bounds-print-end
-slice_bounds-print-end c =
+pub slice_bounds-text-end : goal.slice_bounds-text-end
+slice_bounds-text-end c =
     sym (length-take-le _ _ (printed_within _ _ _ c.fit-printed.ensures.size c.fit-printed.ensures.writes))

@@ -1,9 +1,9 @@
-use Rattle.std.proofs.Common.{length, ◌-◌, ◌≡◌, ◌≤◌}
+use Rattle.std.proofs.Common.{length, ◌-◌, ◌≤◌}
 use Rattle.terminal.proofs.read_sheet.Given as goal
 
--- What was read lies within the lent bytes, which keep their number.
-abbrev pub invariant-loop-done : goal.invariant-loop-done
-invariant-loop-done g l = (l.done ≤ length l.bytes) × (length l.bytes ≡ length l.initial.bytes)
+-- What was read lies within the lent bytes.
+abbrev pub invariant-loop-used : goal.invariant-loop-used
+invariant-loop-used g l = l.used ≤ length l.bytes
 
-abbrev pub decreases-loop-done : goal.decreases-loop-done
-decreases-loop-done g l = length l.initial.bytes - l.done
+abbrev pub decreases-loop-used : goal.decreases-loop-used
+decreases-loop-used g l = length l.initial.bytes - l.used

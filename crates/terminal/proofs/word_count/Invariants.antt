@@ -1,8 +1,0 @@
-use Rattle.std.proofs.Common.{◌-◌, ◌≤◌}
-use Rattle.terminal.proofs.word_count.Given as goal
-
-abbrev pub invariant-loop-count : goal.invariant-loop-count
-invariant-loop-count g l = l.count ≤ l.most
-
-abbrev pub decreases-loop-count : goal.decreases-loop-count
-decreases-loop-count g l = l.most - l.count
