@@ -1,159 +1,74 @@
-// Critical sequences, with the lent words after the call, and the plain reckoner.
-use crate::{answered, lent, two_states};
-use draft::{Draft, action, empty, entry, one, pair, stay, trailer, two};
+// Critical sequences, and the plain reckoner.
+use crate::example::Example;
+use draft::Draft;
 use std::io;
 
-fn critical(
-    rt: &impl Print,
-    what: &str,
-    draft: Draft,
-    machine: u32,
-    from: u32,
-    to: u32,
-    words: &mut [u32],
-) -> io::Result<()> {
-    print!(rt; "critical of {what} machine {machine} [{from},{to})")?;
-    let bytes = draft.bytes;
-    let used = draft.used;
-    let whole: &[u8] = &bytes;
-    if used <= whole.len() {
-        let answer = saglubitan::critical(&whole[..used], machine, from, to, words);
-        answered(rt, answer)?;
-        lent(rt, words)?;
-    }
-    Ok(())
+pub(crate) fn criticals(rt: &impl Print) -> io::Result<()> {
+    pair_criticals(rt)?;
+    tied_criticals(rt)?;
+    single_criticals(rt)
 }
 
 fn pair_criticals(rt: &impl Print) -> io::Result<()> {
-    let mut ten = [9u32; 10];
-    critical(rt, "PAIR", pair(), 1, 0, 101, &mut ten)?;
-    let mut six = [9u32; 6];
-    critical(rt, "PAIR", pair(), 1, 80, 101, &mut six)?;
-    let mut three = [9u32; 3];
-    critical(rt, "PAIR", pair(), 1, 80, 101, &mut three)?;
-    let mut nothing = [9u32; 0];
-    critical(rt, "PAIR", pair(), 1, 1, 40, &mut nothing)?;
-    let mut beyond = [9u32; 2];
-    critical(rt, "PAIR", pair(), 2, 0, 2049, &mut beyond)
+    let pair = Example::new("PAIR", Draft::pair());
+    pair.critical(rt, (1, 0, 101), &mut [9; 10])?;
+    pair.critical(rt, (1, 80, 101), &mut [9; 6])?;
+    pair.critical(rt, (1, 80, 101), &mut [9; 3])?;
+    pair.critical(rt, (1, 1, 40), &mut [])?;
+    pair.critical(rt, (2, 0, 2049), &mut [9; 2])
 }
 
 // Ties: the first pair that differs decides, by its instant, then by its action.
 fn tied_criticals(rt: &impl Print) -> io::Result<()> {
-    let mut first = [9u32; 4];
-    critical(
+    let to_both = Draft::new()
+        .action(1, 1, 2, 3, 1)
+        .action(1, 0, 1, 3, 1)
+        .one_machine(2, 0, 2);
+    Example::new("1 to 1 T2 C3 D1 and 1 to 0 T1 C3 D1,", to_both).critical(
         rt,
-        "1 to 1 T2 C3 D1 and 1 to 0 T1 C3 D1,",
-        two_states(action(action(empty(), 1, 1, 2, 3, 1), 1, 0, 1, 3, 1)),
-        0,
-        1,
-        3,
-        &mut first,
+        (0, 1, 3),
+        &mut [9; 4],
     )?;
-    let mut second = [9u32; 4];
-    critical(
+    let apart = Draft::new()
+        .action(1, 1, 2, 1, 1)
+        .action(0, 0, 3, 1, 1)
+        .one_machine(2, 0, 2);
+    Example::new("1 to 1 T2 C1 D1 and 0 to 0 T3 C1 D1,", apart).critical(
         rt,
-        "1 to 1 T2 C1 D1 and 0 to 0 T3 C1 D1,",
-        two_states(action(action(empty(), 1, 1, 2, 1, 1), 0, 0, 3, 1, 1)),
-        0,
-        0,
-        1,
-        &mut second,
+        (0, 0, 1),
+        &mut [9; 4],
     )?;
-    let mut third = [9u32; 4];
-    critical(
-        rt,
-        "1 to 1 T1 C1 D1 and 1 to 0 T2 C2 D1,",
-        two_states(action(action(empty(), 1, 1, 1, 1, 1), 1, 0, 2, 2, 1)),
-        0,
-        0,
-        2,
-        &mut third,
-    )
+    let later = Draft::new()
+        .action(1, 1, 1, 1, 1)
+        .action(1, 0, 2, 2, 1)
+        .one_machine(2, 0, 2);
+    Example::new("1 to 1 T1 C1 D1 and 1 to 0 T2 C2 D1,", later).critical(rt, (0, 0, 2), &mut [9; 4])
 }
 
 fn single_criticals(rt: &impl Print) -> io::Result<()> {
-    let leads = trailer(entry(action(empty(), 1, 0, 1, 3, 1), 2, 0, 1, 0), 8, 1);
-    let mut early = [9u32; 4];
-    critical(rt, "1 to 0 T1 C3 D1,", leads, 0, 0, 2, &mut early)?;
-    let mut eight = [9u32; 8];
-    critical(
-        rt,
-        "0 to 1 T1 C1 D1,",
-        one(2, 0, 1, 1, 1, 1),
-        0,
-        0,
-        3,
-        &mut eight,
-    )?;
-    let mut just = [9u32; 2];
-    critical(
-        rt,
-        "0 to 1 T1 C1 D1,",
-        one(2, 0, 1, 1, 1, 1),
-        0,
-        0,
-        3,
-        &mut just,
-    )
+    let back = Draft::new().action(1, 0, 1, 3, 1).one_machine(2, 0, 1);
+    Example::new("1 to 0 T1 C3 D1,", back).critical(rt, (0, 0, 2), &mut [9; 4])?;
+    let forth = Draft::new().action(0, 1, 1, 1, 1).one_machine(2, 0, 1);
+    let forth = Example::new("0 to 1 T1 C1 D1,", forth);
+    forth.critical(rt, (0, 0, 3), &mut [9; 8])?;
+    forth.critical(rt, (0, 0, 3), &mut [9; 2])
 }
 
-fn plain(
-    rt: &impl Print,
-    what: &str,
-    draft: Draft,
-    machine: u32,
-    from: u32,
-    to: u32,
-) -> io::Result<()> {
-    print!(rt; "plain of {what} machine {machine} [{from},{to})")?;
-    let bytes = draft.bytes;
-    let used = draft.used;
-    let whole: &[u8] = &bytes;
-    if used <= whole.len() {
-        let answer = saglubitan::plain(&whole[..used], machine, from, to);
-        answered(rt, answer)?;
-    }
-    Ok(())
-}
-
-fn plains(rt: &impl Print) -> io::Result<()> {
-    plain(rt, "PAIR", pair(), 1, 0, 101)?;
-    plain(rt, "PAIR", pair(), 1, 0, 41)?;
-    plain(rt, "T1 C1 D1,", one(1, 0, 0, 1, 1, 1), 0, 0, 6)?;
-    plain(rt, "T1 C1 D1,", one(1, 0, 0, 1, 1, 1), 0, 0, 7)?;
-    plain(
-        rt,
-        "T1 C1 D1 beside T8 C1 D1,",
-        two(stay(empty(), 1, 1, 1), 8, 1, 1),
-        1,
-        0,
-        8,
-    )?;
-    plain(rt, "PAIR", pair(), 0, 0, 2049)?;
-    plain(rt, "PAIR", pair(), 2, 0, 2049)?;
-    plain(
-        rt,
-        "0 to 1 T2 C1 D1 and 1 to 2 T2 C1 D1,",
-        trailer(
-            entry(
-                action(action(empty(), 0, 1, 2, 1, 1), 1, 2, 2, 1, 1),
-                3,
-                0,
-                2,
-                0,
-            ),
-            16,
-            1,
-        ),
-        0,
-        0,
-        1,
-    )
-}
-
-pub(crate) fn sequences(rt: &impl Print) -> io::Result<()> {
-    pair_criticals(rt)?;
-    tied_criticals(rt)?;
-    single_criticals(rt)?;
-    plains(rt)
+pub(crate) fn plains(rt: &impl Print) -> io::Result<()> {
+    let pair = Example::new("PAIR", Draft::pair());
+    pair.plain(rt, (1, 0, 101))?;
+    pair.plain(rt, (1, 0, 41))?;
+    let alone = Draft::new().stay(1, 1, 1).one_machine(1, 0, 1);
+    let alone = Example::new("T1 C1 D1,", alone);
+    alone.plain(rt, (0, 0, 6))?;
+    alone.plain(rt, (0, 0, 7))?;
+    let beside = Draft::new().stay(1, 1, 1).stay(8, 1, 1).two_machines();
+    Example::new("T1 C1 D1 beside T8 C1 D1,", beside).plain(rt, (1, 0, 8))?;
+    pair.plain(rt, (0, 0, 2049))?;
+    pair.plain(rt, (2, 0, 2049))?;
+    let chain = Draft::new()
+        .action(0, 1, 2, 1, 1)
+        .action(1, 2, 2, 1, 1)
+        .one_machine(3, 0, 2);
+    Example::new("0 to 1 T2 C1 D1 and 1 to 2 T2 C1 D1,", chain).plain(rt, (0, 0, 1))
 }

@@ -1,79 +1,97 @@
-// A call: six words, which are its number, machine, from, to, the number of words lent and the number of bytes of the
-// sheet; then the sheet. Numbers: 0 check, 1 request, 2 demand, 3 table, where `to` is the table's length, 4 critical,
+// A call: six words, which are its kind, machine, from, to, the number of words lent and the number of bytes of the
+// sheet; then the sheet. For a table `to` is its length. Kinds: 0 check, 1 request, 2 demand, 3 table, 4 critical,
 // 5 plain, 6 judge.
-ghost use Rattle.std.specs.Prelude.{◌≡◌, ◌≤◌, length};
+ghost use Rattle.std.specs.Prelude.{◌≤◌};
 
-use crate::{replied, words};
-use number::read_le32;
-use std::io::{Read, Write};
+use crate::replied::{Reply, judged, refused, values};
+use crate::words::read_word;
+use std::io;
+use std::io::{ErrorKind, Read};
+
+#[derive(Clone, Copy)]
+pub(crate) enum Kind {
+    Check,
+    Request,
+    Demand,
+    Table,
+    Critical,
+    Plain,
+    Judge,
+}
+
+impl TryFrom<u32> for Kind {
+    type Error = io::Error;
+
+    fn try_from(number: u32) -> io::Result<Kind> {
+        match number {
+            0 => Ok(Kind::Check),
+            1 => Ok(Kind::Request),
+            2 => Ok(Kind::Demand),
+            3 => Ok(Kind::Table),
+            4 => Ok(Kind::Critical),
+            5 => Ok(Kind::Plain),
+            6 => Ok(Kind::Judge),
+            _ => Err(ErrorKind::InvalidData.into()),
+        }
+    }
+}
 
 #[derive(Clone, Copy)]
 pub(crate) struct Call {
-    pub(crate) number: u32,
-    pub(crate) machine: u32,
-    pub(crate) from: u32,
-    pub(crate) to: u32,
+    kind: Kind,
+    machine: u32,
+    from: u32,
+    to: u32,
+    pub(crate) lent: usize,
+    pub(crate) size: usize,
+    ghost has_room: { (lent ≤ 4112) × (size ≤ 4096) },
 }
 
-// Reads the next call and writes its reply. False where there is none: the input ends, no call has the
-// number, or more is lent or sent than there is room for; and where nothing more can be written.
-pub(crate) fn answer_next<R: Read, W: Write>(
-    input: &mut R,
-    output: &mut W,
-    room: &mut [u8],
-    words: &mut [u32],
-    bytes: &mut [u8],
-) -> bool
-    requires { (length room.old ≡ 4096) × (length words.old ≡ 4128) × (length bytes.old ≡ 16536) }
-{
-    let mut head = [0u8; 24];
-    if input.read_exact(&mut head).is_err() {
-        return false;
+impl Call {
+    // Reads the next call. It is none where no kind has the number, or where more is lent or sent than there is room for.
+    pub(crate) fn read<R: Read>(input: &mut R) -> io::Result<Call> {
+        let mut head = [0; 24];
+        input.read_exact(&mut head)?;
+        let mut head = &head[..];
+        let kind = Kind::try_from(read_word(&mut head)?)?;
+        let machine = read_word(&mut head)?;
+        let from = read_word(&mut head)?;
+        let to = read_word(&mut head)?;
+        let lent = read_word(&mut head)? as usize;
+        let size = read_word(&mut head)? as usize;
+        if lent > 4112 || size > 4096 {
+            return Err(ErrorKind::InvalidData.into());
+        }
+        Ok(Call {
+            kind,
+            machine,
+            from,
+            to,
+            lent,
+            size,
+        })
     }
-    let lent = read_le32(&head, 16) as usize;
-    let size = read_le32(&head, 20) as usize;
-    if 4112 < lent {
-        return false;
-    }
-    if 4096 < size {
-        return false;
-    }
-    if input.read_exact(&mut room[..size]).is_err() {
-        return false;
-    }
-    let call = call_in(&head);
-    let used = lent + 2 * words::GUARDS;
-    answer(output, call, &room[..size], &mut words[..used], bytes)
-}
 
-fn call_in(head: &[u8; 24]) -> Call {
-    Call {
-        number: read_le32(head, 0),
-        machine: read_le32(head, 4),
-        from: read_le32(head, 8),
-        to: read_le32(head, 12),
+    pub(crate) fn lends_words(&self) -> bool {
+        matches!(self.kind, Kind::Table | Kind::Critical)
     }
-}
 
-// Answers a call, which may be lent the words between the guards.
-fn answer<W: Write>(
-    output: &mut W,
-    call: Call,
-    sheet: &[u8],
-    words: &mut [u32],
-    bytes: &mut [u8],
-) -> bool
-    requires { (16 ≤ length words.old) × (length words.old ≤ 4128) × (length bytes.old ≡ 16536) }
-{
-    let number = call.number;
-    if 6 < number {
-        return false;
+    // Makes the call; a table or a critical sequence may write the words.
+    pub(crate) fn reply(&self, sheet: &[u8], words: &mut [u32]) -> Reply {
+        let machine = self.machine;
+        let from = self.from;
+        let to = self.to;
+        let reply = match self.kind {
+            Kind::Check => saglubitan::check(sheet).map(|a| values(&[a.machines, a.hyperperiod])),
+            Kind::Request => saglubitan::request(sheet, machine, from, to).map(|v| values(&[v])),
+            Kind::Demand => saglubitan::demand(sheet, machine, from, to).map(|v| values(&[v])),
+            Kind::Table => saglubitan::table(sheet, machine, from, to, words).map(|()| values(&[])),
+            Kind::Critical => {
+                saglubitan::critical(sheet, machine, from, to, words).map(|v| values(&[v]))
+            }
+            Kind::Plain => saglubitan::plain(sheet, machine, from, to).map(|v| values(&[v])),
+            Kind::Judge => saglubitan::judge(sheet).map(judged),
+        };
+        reply.unwrap_or_else(refused)
     }
-    if number == 3 {
-        return words::answer_in_words(output, call, sheet, words, bytes);
-    }
-    if number == 4 {
-        return words::answer_in_words(output, call, sheet, words, bytes);
-    }
-    words::write_reply(output, replied::reply(call, sheet))
 }

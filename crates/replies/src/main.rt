@@ -8,26 +8,36 @@ mod call;
 mod replied;
 mod words;
 
-use number::read_le32;
-use std::io::Read;
+use arrayvec::ArrayVec;
+use call::Call;
+use std::io;
+use std::io::{Read, Write};
+use words::{GUARDS, guard, put_words, read_word};
 
 fn main(rt: HostRuntime) {
-    let mut input = rt.stdin();
-    let mut output = rt.stdout();
-    let mut first = [0u8; 4];
-    if input.read_exact(&mut first).is_err() {
-        return;
-    }
-    let calls = read_le32(&first, 0);
-    // The room for a sheet, for the lent words with their guards, and for what is written of a call.
-    let mut sheet = [0u8; 4096];
-    let mut words = [0u32; 4128];
-    let mut bytes = [0u8; 24 + 4 * 4128];
-    let mut answered = 0;
-    while answered < calls {
-        if !call::answer_next(&mut input, &mut output, &mut sheet, &mut words, &mut bytes) {
-            return;
+    // nothing is left to be said where no call can be read or no reply can be written
+    let _ = answer_calls(&mut rt.stdin(), &mut rt.stdout());
+}
+
+fn answer_calls<R: Read, W: Write>(input: &mut R, output: &mut W) -> io::Result<()> {
+    // the room for a sheet, for the lent words with their guards, and for what is written of a call
+    let mut sheet = [0; 4096];
+    let mut words = [0; 4128];
+    let mut bytes = ArrayVec::new();
+    for _ in 0..read_word(input)? {
+        let call = Call::read(input)?;
+        let sheet = &mut sheet[..call.size];
+        input.read_exact(sheet)?;
+        let words = &mut words[..call.lent + 2 * GUARDS];
+        guard(words);
+        let reply = call.reply(sheet, &mut words[GUARDS..GUARDS + call.lent]);
+        bytes.clear();
+        put_words(&reply, &mut bytes)?;
+        if call.lends_words() {
+            put_words(words, &mut bytes)?;
         }
-        answered += 1;
+        output.write_all(bytes.as_slice())?;
+        output.flush()?;
     }
+    Ok(())
 }

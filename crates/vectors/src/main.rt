@@ -3,22 +3,18 @@
 #![tactic(auto)]
 
 use draft::{Draft, Refused};
-use reply::Accepted;
 use std::io;
 
 // What is tried, and what `check` replies.
 fn check(rt: &impl Print, what: &str, draft: Draft) -> io::Result<()> {
     match saglubitan::check(draft.as_slice()) {
-        Ok(
-            Accepted {
-                machines,
-                hyperperiod,
-            },
-        ) => println!(rt; "{what}: accepted {machines} {hyperperiod}"),
-        Err(reason) => {
-            let refused = Refused(reason);
-            println!(rt; "{what}: {refused}")
+        Ok(accepted) => {
+            println!(rt;
+                "{what}: accepted {} {}",
+                accepted.machines, accepted.hyperperiod
+            )
         }
+        Err(reason) => println!(rt; "{what}: {}", Refused(reason)),
     }
 }
 
@@ -155,30 +151,30 @@ fn divisors(rt: &impl Print) -> io::Result<()> {
     )
 }
 
+// An action from state 0, its machine still to come.
+fn leading_to(sink: u8) -> Draft {
+    Draft::new().action(0, sink, 2, 1, 1)
+}
+
 fn states(rt: &impl Print) -> io::Result<()> {
-    check(rt, "states 0", two_ticks(0).one_machine(0, 0, 1))?;
-    check(rt, "states 16", two_ticks(15).one_machine(16, 15, 1))?;
-    check(rt, "states 17", two_ticks(0).one_machine(17, 0, 1))?;
+    check(rt, "states 0", leading_to(0).one_machine(0, 0, 1))?;
+    check(rt, "states 16", leading_to(15).one_machine(16, 15, 1))?;
+    check(rt, "states 17", leading_to(0).one_machine(17, 0, 1))?;
     check(
         rt,
         "initial state at the number of states",
-        two_ticks(0).one_machine(2, 2, 1),
+        leading_to(0).one_machine(2, 2, 1),
     )?;
     check(
         rt,
         "sink at the number of states",
-        two_ticks(1).one_machine(1, 0, 1),
+        leading_to(1).one_machine(1, 0, 1),
     )?;
     check(
         rt,
         "source at the number of states",
         Draft::new().action(3, 0, 2, 1, 1).one_machine(3, 0, 1),
     )
-}
-
-// An action from state 0 with a period of 2.
-fn two_ticks(sink: u8) -> Draft {
-    Draft::new().action(0, sink, 2, 1, 1)
 }
 
 // One machine of one state and one action.
