@@ -29,21 +29,21 @@ fn pair_requests(rt: &impl Print) -> io::Result<()> {
     for window in windows {
         pair.request(rt, window)?;
     }
-    let other = Draft::pair().with_byte(67, 0x30);
-    Example::new("PAIR with last byte 30,", other).request(rt, (0, 0, 200))
+    let draft = Draft::pair().with_byte(67, 0x30);
+    Example::new("PAIR with last byte 30,", draft).request(rt, (0, 0, 200))
 }
 
 fn state_requests(rt: &impl Print) -> io::Result<()> {
-    let from_one = Draft::new()
+    let draft = Draft::new()
         .action(0, 1, 1, 1, 1)
         .action(0, 0, 2, 2, 1)
         .one_machine(2, 0, 2);
-    Example::new("0 to 1 T1 C1 D1 and 0 to 0 T2 C2 D1,", from_one).request(rt, (0, 1, 3))?;
-    let from_zero = Draft::new()
+    Example::new("0 to 1 T1 C1 D1 and 0 to 0 T2 C2 D1,", draft).request(rt, (0, 1, 3))?;
+    let draft = Draft::new()
         .action(1, 0, 2, 2, 1)
         .action(1, 1, 1, 2, 1)
         .one_machine(2, 0, 2);
-    Example::new("1 to 0 T2 C2 D1 and 1 to 1 T1 C2 D1,", from_zero).request(rt, (0, 0, 2))
+    Example::new("1 to 0 T2 C2 D1 and 1 to 1 T1 C2 D1,", draft).request(rt, (0, 0, 2))
 }
 
 fn demands(rt: &impl Print) -> io::Result<()> {
@@ -51,15 +51,15 @@ fn demands(rt: &impl Print) -> io::Result<()> {
     for window in [(1, 0, 19), (1, 0, 20), (1, 1000000, 1000000), (1, 7, 3)] {
         pair.demand(rt, window)?;
     }
-    let both = Draft::new()
+    let draft = Draft::new()
         .stay(2, 3, 1)
         .stay(2, 1, 2)
         .one_machine(1, 0, 2);
-    Example::new("T2 C3 D1 and T2 C1 D2,", both).demand(rt, (0, 0, 1))?;
-    let four = Draft::new().stay(4, 2, 1).one_machine(1, 0, 1);
-    Example::new("T4 C2 D1,", four).demand(rt, (0, 0, 1))?;
-    let two = Draft::new().stay(2, 1, 2).one_machine(1, 0, 1);
-    Example::new("T2 C1 D2,", two).demand(rt, (0, 0, 2))
+    Example::new("T2 C3 D1 and T2 C1 D2,", draft).demand(rt, (0, 0, 1))?;
+    let draft = Draft::new().stay(4, 2, 1).one_machine(1, 0, 1);
+    Example::new("T4 C2 D1,", draft).demand(rt, (0, 0, 1))?;
+    let draft = Draft::new().stay(2, 1, 2).one_machine(1, 0, 1);
+    Example::new("T2 C1 D2,", draft).demand(rt, (0, 0, 2))
 }
 
 fn tables(rt: &impl Print) -> io::Result<()> {
@@ -73,17 +73,17 @@ fn tables(rt: &impl Print) -> io::Result<()> {
 }
 
 fn fits(rt: &impl Print) -> io::Result<()> {
-    let beside = Draft::new()
+    let draft = Draft::new()
         .stay(6, 1, 1)
         .stay(4, 1, 1)
         .stay(4, 3, 4)
         .entry(1, 0, 2, 0)
         .entry(1, 0, 1, 16)
         .trailer(24, 2);
-    Example::new("T6 C1 D1 and T4 C1 D1 beside T4 C3 D4", beside).fit(rt)?;
+    Example::new("T6 C1 D1 and T4 C1 D1 beside T4 C3 D4", draft).fit(rt)?;
     Example::new("PAIR with time 15 in machine 0", Draft::pair_with(15, 20)).fit(rt)?;
-    let other = Draft::pair().with_byte(67, 0x30);
-    Example::new("PAIR with last byte 30", other).fit(rt)?;
+    let draft = Draft::pair().with_byte(67, 0x30);
+    Example::new("PAIR with last byte 30", draft).fit(rt)?;
     Example::new("2125 bytes, all zero", Draft::zeros(2125)).fit(rt)?;
     Example::new("PAIR", Draft::pair()).short_fit(rt)
 }

@@ -3,7 +3,7 @@
 // 5 plain, 6 judge.
 ghost use Rattle.std.specs.Prelude.{◌≤◌};
 
-use crate::replied::{Reply, judged, refused, values};
+use crate::replied::{Reply, accepted, filled, judged, number, refused};
 use crate::words::read_word;
 use std::io;
 use std::io::{ErrorKind, Read};
@@ -48,7 +48,7 @@ pub(crate) struct Call {
 }
 
 impl Call {
-    // Reads the next call. It is none where no kind has the number, or where more is lent or sent than there is room for.
+    // Reads the next call. It is none where no kind has the number, or more is lent or sent than there is room for.
     pub(crate) fn read<R: Read>(input: &mut R) -> io::Result<Call> {
         let mut head = [0; 24];
         input.read_exact(&mut head)?;
@@ -78,18 +78,19 @@ impl Call {
 
     // Makes the call; a table or a critical sequence may write the words.
     pub(crate) fn reply(&self, sheet: &[u8], words: &mut [u32]) -> Reply {
-        let machine = self.machine;
-        let from = self.from;
-        let to = self.to;
+        let Call {
+            machine,
+            from,
+            to,
+            ..
+        } = *self;
         let reply = match self.kind {
-            Kind::Check => saglubitan::check(sheet).map(|a| values(&[a.machines, a.hyperperiod])),
-            Kind::Request => saglubitan::request(sheet, machine, from, to).map(|v| values(&[v])),
-            Kind::Demand => saglubitan::demand(sheet, machine, from, to).map(|v| values(&[v])),
-            Kind::Table => saglubitan::table(sheet, machine, from, to, words).map(|()| values(&[])),
-            Kind::Critical => {
-                saglubitan::critical(sheet, machine, from, to, words).map(|v| values(&[v]))
-            }
-            Kind::Plain => saglubitan::plain(sheet, machine, from, to).map(|v| values(&[v])),
+            Kind::Check => saglubitan::check(sheet).map(accepted),
+            Kind::Request => saglubitan::request(sheet, machine, from, to).map(number),
+            Kind::Demand => saglubitan::demand(sheet, machine, from, to).map(number),
+            Kind::Table => saglubitan::table(sheet, machine, from, to, words).map(|()| filled()),
+            Kind::Critical => saglubitan::critical(sheet, machine, from, to, words).map(number),
+            Kind::Plain => saglubitan::plain(sheet, machine, from, to).map(number),
             Kind::Judge => saglubitan::judge(sheet).map(judged),
         };
         reply.unwrap_or_else(refused)
