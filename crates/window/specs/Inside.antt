@@ -1,11 +1,13 @@
 -- What the contracts of inner functions cite, and no reader has to believe.
-use Rattle.std.specs.Prelude.{ℕ, ◌<◌, List}
-use Rattle.model.specs.Inside.{InRange}
-use Rattle.sheet.specs.Format.{machine_count}
-use Rattle.sheet.specs.Inside.{Accepted}
+use Rattle.std.specs.Prelude.{ℕ, ◌+◌, ◌-◌, ◌≡◌, List}
+use Rattle.model.specs.Machine.{machine_of}
+use Rattle.sheet.specs.Format.{decode}
+use Rattle.sheet.specs.Meant.{meant}
+use Rattle.window.specs.declared.machine_window.MachineWindow.{MachineWindow}
 
--- what a proper question gives
-pub record Proper (b : List ℕ) (i s f : ℕ) : Type 0 where
-  pub accepted : Accepted b
-  pub known : i < machine_count b
-  pub window : InRange s f
+-- w is the window from s to f of machine i of sheet b
+pub record IsWindowOf (b : List ℕ) (i s f : ℕ) (w : MachineWindow) : Type 0 where
+  pub machine : meant w.machine ≡ machine_of (decode b) i
+  pub from : w.from ≡ s
+  pub length : w.length ≡ f - s
+  pub to : s + (f - s) ≡ f

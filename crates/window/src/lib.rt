@@ -1,40 +1,46 @@
-// A question about a machine and a window: what may be asked.
-// Definitions: specs/Window.antt.
+// A question about a machine and a window: what may be asked. Definitions: specs/Window.antt.
 #![tactic(auto)]
 
-ghost use Rattle.std.specs.Prelude.{◌≡◌, ◌<◌, ◌^◌};
-ghost use Rattle.reply.specs.Inside.{paper};
+mod machine_window;
+
+ghost use Rattle.std.specs.Prelude.{◌≡◌, IfOk};
+ghost use Rattle.reply.specs.Inside.{refused_by};
 ghost use Rattle.window.specs.Window.{question_refusal, window_in_range};
+ghost use Rattle.window.specs.Inside.{IsWindowOf};
 
+pub use machine_window::MachineWindow;
 use model::{LAST_TICK, LONGEST_WINDOW};
-use reply::{Checked, Rule};
+use reply::Reason;
 
-// Refusals 1 to 9, then 10 and 11, of a question about a machine and the window from `from` to `to`.
-pub fn question_rule(sheet: &[u8], machine: u32, from: u64, to: u64) -> Rule
-    requires { from < 2 ^ 32 }
-    ensures { paper result ≡ question_refusal sheet.now machine from to }
+// The window from `from` to `to` of a machine, or why a question about it is refused: 1 to 9, then 10 and 11.
+#[tactic(auto, using(crate::proofs::Replies::questions))]
+pub fn window_of<'a>(
+    sheet: &'a [u8],
+    machine: u32,
+    from: u32,
+    to: u64,
+) -> Result<MachineWindow<'a>, Reason>
+    ensures refused { refused_by result ≡ question_refusal sheet.now machine from to }
+    ensures window { IfOk result (IsWindowOf sheet.now machine from to) }
 {
-    let checked = rules::check(sheet);
-    match checked {
-        Checked::Refused(refusal) => Rule::Broken(refusal),
-        Checked::Accepted {
-            machines,
-            hyperperiod: _,
-        } => {
-            if machines <= machine {
-                return Rule::Broken(reply::placeless(10));
-            }
-            if !in_range(from, to) {
-                return Rule::Broken(reply::placeless(11));
-            }
-            Rule::Kept
-        }
+    let sheet = rules::accept(sheet)?;
+    if sheet.machines <= machine as usize {
+        return Err(Reason::UnknownMachine);
     }
+    if !in_range(from, to) {
+        return Err(Reason::Window);
+    }
+    Ok(MachineWindow {
+        machine: sheet.machine(machine as usize),
+        from,
+        length: (to - u64::from(from)) as u32,
+    })
 }
 
-fn in_range(from: u64, to: u64) -> bool
-    requires { from < 2 ^ 32 }
+// Whether a window is one that may be asked about.
+fn in_range(from: u32, to: u64) -> bool
     ensures { result ≡ window_in_range from to }
 {
-    (from <= to) & (to <= from + LONGEST_WINDOW as u64) & (to <= LAST_TICK as u64)
+    let from = u64::from(from);
+    from <= to && to <= from + u64::from(LONGEST_WINDOW) && to <= u64::from(LAST_TICK)
 }
