@@ -115,8 +115,4 @@ module _ (b : List ℕ) (trailer : None ≡ trailer_rules b) where
                   period = (limited_some (hyperperiod (decode b)) limit).0;
                 }
 
-pub ruleset known = (entries_kept, offsets_kept, periods_kept, all_counted)
-
-pub ruleset refuses = (trailer_refuses, five_refuses, six_refuses, seven_refuses, eight_refuses, nine_refuses)
-
-pub ruleset stages = (passed_on, known, refuses, none_refuses)
+pub ruleset stages = (passed_on, trailer_refuses, five_refuses, nine_refuses, entries_kept, offsets_kept, periods_kept)

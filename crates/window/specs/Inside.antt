@@ -10,4 +10,4 @@ pub record IsWindowOf (b : List ℕ) (i s f : ℕ) (w : MachineWindow) : Type 0 
   pub machine : meant w.machine ≡ machine_of (decode b) i
   pub from : w.from ≡ s
   pub length : w.length ≡ f - s
-  pub to : s + (f - s) ≡ f
+  pub to : s + w.length ≡ f

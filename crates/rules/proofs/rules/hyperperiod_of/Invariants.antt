@@ -7,4 +7,7 @@ use Rattle.rules.proofs.rules.hyperperiod_of.Given as goal
 
 abbrev pub invariant-loop-k : goal.invariant-loop-k
 invariant-loop-k l =
-    record { in_range : Between 1 longest_hyperperiod l.h; gathering : Gathering (decode l.sheet) l.h l.k (hyperperiod (decode l.sheet)) }
+    record {
+      in_range : Between 1 longest_hyperperiod l.h;
+      gathering : Gathering (decode l.sheet) l.h l.k (hyperperiod (decode l.sheet));
+    }

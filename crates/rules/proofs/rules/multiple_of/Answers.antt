@@ -20,7 +20,10 @@ loop-j-preserved c =
     let inside = (c.requires.0.period _ c.loop-j.j c.args.entry.now.read.known (omega arith)).0 in
     let positive = lcm_positive _ _ c.loop-j.invariant.in_range.0 inside in
     record {
-      in_range = (omega (arith, c.lcm_of-multiple.ensures ∙ period, positive), c.if-multiple-gt-LONGEST_HYPERPERIOD.false);
+      in_range = (
+        omega (arith, c.lcm_of-multiple.ensures ∙ period, positive),
+        c.if-multiple-gt-LONGEST_HYPERPERIOD.false,
+      );
       taking = taking_more _ c.loop-j.invariant.taking (omega arith) (c.lcm_of-multiple.ensures ∙ period);
     }
 

@@ -6,4 +6,8 @@ use Rattle.rules.proofs.rules.offset_rule.Given as goal
 
 abbrev pub invariant-loop-k : goal.invariant-loop-k
 invariant-loop-k l =
-    record { small : l.begin ≤ 2048 * l.k; begins : l.begin ≡ action_size * actions_before l.sheet l.k; clear : Clear (offset_refusal l.sheet) l.k }
+    record {
+      small : l.begin ≤ 2048 * l.k;
+      begins : l.begin ≡ action_size * actions_before l.sheet l.k;
+      clear : Clear (offset_refusal l.sheet) l.k;
+    }
