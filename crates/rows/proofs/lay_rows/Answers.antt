@@ -1,24 +1,21 @@
-use Rattle.std.proofs.Common.{◌<◌, ◌-◌, length, refl, arith}
-use Rattle.sheet.proofs.Entries.{entry_sizes}
-use Rattle.rows.proofs.Rows.{laid_begin, laid_more, back_ready, masked_short}
+use Rattle.std.proofs.Common.{◌-◌, ◌<◌, length, arith}
+use Rattle.sheet.proofs.Entries.{meant_sizes}
+use Rattle.rows.proofs.Rows.{rows_begin, rows_more, back_ready}
 use Rattle.rows.proofs.lay_rows.Goals as goal
 
 pub loop-k-init : goal.loop-k-init
-loop-k-init c =
-    let (marked, room) = c.requires in
-    laid_begin (entry_sizes marked.entry) c.args.rows.now refl room (masked_short marked) c.lay_row.ensures
+loop-k-init c = rows_begin (meant_sizes c.args.window.now.machine) (omega arith) c.args.rows.now (omega arith)
 
-pub tick-next-requires : goal.tick-next-requires
-tick-next-requires c =
-    let marked = c.requires.0 in
-    let inside : c.loop-k.k - 1 < length c.args.masks.now = omega arith in
-    let mask = marked.all.at _ inside in
-    let few = masked_short marked in
-    (marked.entry, back_ready (entry_sizes marked.entry) c.loop-k.invariant.last (omega arith) mask)
+pub tick-requires : goal.tick-requires
+tick-requires c =
+    let window = c.args.window.now in
+    let inside : c.loop-k.k - 1 < length window.masks.now = omega arith in
+    back_ready (meant_sizes window.machine) (c.loop-k.invariant.at _ (omega arith) (omega arith)) (omega arith)
+    (window.marked.at _ inside)
 
 pub loop-k-preserved : goal.loop-k-preserved
 loop-k-preserved c =
-    let marked = c.requires.0 in
-    let inside : c.loop-k.k - 1 < length c.args.masks.now = omega arith in
-    laid_more (entry_sizes marked.entry) c.loop-k.invariant (masked_short marked) c.loop-k-test.true
-    (marked.all.at _ inside) c.tick-next.ensures c.lay_row-in-loop-k.ensures
+    let window = c.args.window.now in
+    let inside : c.loop-k.k - 1 < length window.masks.now = omega arith in
+    rows_more (meant_sizes window.machine) (omega arith) c.loop-k.invariant c.loop-k-test.true c.loop-k.auto.k
+    (window.marked.at _ inside) c.tick.ensures

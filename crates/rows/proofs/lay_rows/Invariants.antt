@@ -1,10 +1,7 @@
 use Rattle.std.proofs.Common.{length}
-use Rattle.sheet.specs.Inside.{machine_at}
-use Rattle.rows.specs.Inside.{RowsLaid}
+use Rattle.sheet.specs.Meant.{meant}
+use Rattle.rows.specs.Inside.{Rows}
 use Rattle.rows.proofs.lay_rows.Given as goal
 
 abbrev pub invariant-loop-k : goal.invariant-loop-k
-invariant-loop-k l = RowsLaid (machine_at l.sheet l.entry) l.from (length l.masks) l.k l.row l.rows
-
-abbrev pub decreases-loop-k : goal.decreases-loop-k
-decreases-loop-k l = l.k
+invariant-loop-k l = Rows (meant l.window.machine) l.window.from (length l.window.masks.now) l.k l.rows
