@@ -1,13 +1,13 @@
 -- The smallest action that makes up what is left of the bound.
-use Prim.Native.Nat.{ℕ, suc, ◌+◌, ◌/◌, ◌%◌, ◌≤◌, ◌<◌}
+use Prim.Native.Nat.{ℕ, suc, ◌+◌, ◌<◌}
 use mathlib.Core.Path.{◌≡◌, refl, sym, ◌∙◌, ap, ap₂}
 use mathlib.Core.Bool.{Bool, true, false, ◌&&◌, and-true, and-false}
 use mathlib.Core.List.{List}
 use mathlib.Core.Logic.{⊎_elim}
 use native.Mathlib.Omega.{arith}
-use native.Mathlib.Nat.{eq-or-lt_of_le}
-use native.Mathlib.Decide.{dec_lt}
+use native.Mathlib.Decide.{dec_lt, ℕ_discrete}
 use lib.Dec.{eqb}
+use Rattle.std.specs.Prelude.{Option, None, Some}
 use Rattle.model.specs.declared.Way.TheVariants.{Back}
 use Rattle.model.specs.Machine.{Machine, count, action_of}
 use Rattle.model.specs.Legal.{requested}
@@ -16,63 +16,86 @@ use Rattle.model.specs.Inside.{Closed, may_trigger, figure, IsBack}
 use Rattle.model.specs.Critical.{is_making}
 use Rattle.model.proofs.Tests.{true_or_false, both_true}
 use Rattle.model.proofs.Names.{closed_inside, closed_onward}
-use Rattle.walk.specs.Inside.{Marks, brought}
-use Rattle.walk.proofs.Mask.{Unseen, unseen_one, unseen_other, unseen_next}
-use Rattle.walk.proofs.Binary.{left_none}
-use Rattle.critical.specs.declared.forward.Leaves.{Leaves}
-use Rattle.critical.specs.declared.forward.Leaves.TheVariants.{Any, State}
+use Rattle.model.proofs.Smallest.{Smallest, smallest_is, smallest_unique}
+use Rattle.walk.specs.Inside.{Marks, Lowest, brought}
+use Rattle.walk.proofs.Mask.{Unseen, unseen_begin, unseen_next, unseen_one, unseen_passed, unseen_none}
 use Rattle.critical.specs.Inside.{may_leave, makes_up, makes_at, FirstMaking}
 
--- the search has come to action j: none before it makes up what is left
-pub record Seeking (m : Machine) (mask : ℕ) (leaves : Leaves) (left : ℕ) (later : List ℕ) (j unseen : ℕ) : Type 0 where
-  pub others : Unseen m mask j unseen
-  pub none : (t : ℕ) → Marks m t mask → (k : ℕ) → k < j → makes_at m t leaves left later k ≡ false
+-- the search: `rest` has the digits of the actions that are still to come, and none of the others makes up what is left
+pub record Seeking (m : Machine) (mask : ℕ) (leaves : Option ℕ) (left : ℕ) (later : List ℕ) (rest : ℕ) : Type 0 where
+  pub next : ℕ
+  pub others : Unseen mask next rest
+  pub none : (t : ℕ) → Marks m t mask → (k : ℕ) → k < next → makes_at m t leaves left later k ≡ false
 
-module _ {m : Machine} {mask : ℕ} {leaves : Leaves} {left : ℕ} {later : List ℕ} where
-  module _ {j unseen : ℕ} (h : Seeking m mask leaves left later j unseen) (known : j < count m) where
-    seeking_next : ((t : ℕ) → Marks m t mask → makes_at m t leaves left later j ≡ false)
-        → Seeking m mask leaves left later (j + 1) (unseen / 2)
-    seeking_next fails =
+-- an action without an instant makes nothing up
+idle : (m : Machine) (t : ℕ) (leaves : Option ℕ) (left : ℕ) (later : List ℕ) (k : ℕ) → may_trigger m t k ≡ false
+    → makes_at m t leaves left later k ≡ false
+idle m t leaves left later k e = ap (λ x. x && makes_up m leaves left later k) e
+
+module _ {m : Machine} {mask : ℕ} {leaves : Option ℕ} {left : ℕ} {later : List ℕ} where
+  pub seeking_begin : Seeking m mask leaves left later mask
+  seeking_begin = record { next = 0; others = unseen_begin; none = λ t g k l. absurd (omega arith) }
+
+  module _ {rest k others : ℕ} (h : Seeking m mask leaves left later rest) (lowest : Lowest rest k others) where
+    before : (t : ℕ) → Marks m t mask → (j : ℕ) → j < k → makes_at m t leaves left later j ≡ false
+    before t g j l =
+        elim (dec_lt j h.next) [
+          | yes b ↦ h.none t g j b
+          | no d ↦ idle m t leaves left later j (unseen_passed h.others lowest g j (omega arith) l)
+        ]
+
+    pub seeking_other : makes_up m leaves left later k ≡ false → Seeking m mask leaves left later others
+    seeking_other fails =
         record {
-          others = unseen_next h.others known;
-          none = λ t g k l.
-              ⊎_elim (λ e. rw e (fails t g)) (λ b. h.none t g k b) (eq-or-lt_of_le (let z : k ≤ j = omega arith in z));
+          next = k + 1;
+          others = unseen_next h.others lowest;
+          none = λ t g j l.
+              elim (ℕ_discrete j k) [
+                | yes e ↦ rw (e, fails) (and-false (may_trigger m t k))
+                | no d ↦ before t g j (omega arith)
+              ];
         }
 
-    -- an action without an instant, or one that does not make it up, is passed
-    pub seeking_unmarked : (unseen % 2 ≡ 1 → ⊥) → Seeking m mask leaves left later (j + 1) (unseen / 2)
-    seeking_unmarked other = seeking_next (λ t g. rw (unseen_other h.others g known other) refl)
-
-    pub seeking_other : makes_up m leaves left later j ≡ false → Seeking m mask leaves left later (j + 1) (unseen / 2)
-    seeking_other fails = seeking_next (λ t g. ap (λ x. may_trigger m t j && x) fails ∙ and-false (may_trigger m t j))
-
-    pub seeking_found : unseen % 2 ≡ 1 → makes_up m leaves left later j ≡ true → FirstMaking m mask leaves left later j
-    seeking_found one makes =
+    pub seeking_found : makes_up m leaves left later k ≡ true → FirstMaking m mask leaves left later (Some k)
+    seeking_found makes =
         record {
-          found = λ t g l. ap₂ ◌&&◌ (unseen_one h.others g known one) makes;
-          before = λ t g k l. h.none t g k;
+          is = λ t g.
+              let (known, may) = unseen_one h.others lowest g in
+              smallest_unique (count m) _ (Some k) _ (known, ap₂ ◌&&◌ may makes, before t g) (smallest_is (count m) _);
         }
 
-  pub seeking_end : {j unseen r : ℕ} → Seeking m mask leaves left later j unseen → unseen ≡ 0 → r ≡ count m
-      → FirstMaking m mask leaves left later r
-  seeking_end {j} h e all =
+  -- with no digit left
+  pub seeking_end : {rest : ℕ} → Seeking m mask leaves left later rest → rest ≡ 0
+      → FirstMaking m mask leaves left later None
+  seeking_end h e =
       record {
-        found = λ t g l. absurd (omega arith);
-        before = λ t g k l b.
-            elim (dec_lt k j) [
-              | yes c ↦ h.none t g k c
-              | no c ↦ rw (left_none (h.others.at t g) e k (omega arith) l) refl
-            ];
+        is = λ t g.
+            smallest_unique (count m) _ None _
+            (λ j l.
+            elim (dec_lt j h.next) [
+              | yes b ↦ h.none t g j b
+              | no d ↦ idle m t leaves left later j (unseen_none h.others e g j (omega arith) l)
+            ])
+            (smallest_is (count m) _);
       }
 
+  pub making_smallest : {r : Option ℕ} → FirstMaking m mask leaves left later r → (t : ℕ) → Marks m t mask
+      → Smallest (count m) (makes_at m t leaves left later) r
+  making_smallest h t g = rw (h.is t g) (smallest_is (count m) (makes_at m t leaves left later))
+
+-- it is an action of the machine
+pub making_known : {m : Machine} {mask : ℕ} {leaves : Option ℕ} {left : ℕ} {later : List ℕ} {j t : ℕ}
+    → FirstMaking m mask leaves left later (Some j) → Marks m t mask → j < count m
+making_known h g = (making_smallest h _ g).0
+
 -- the states that the next pair may leave, as the definition of the critical sequence has them
-abbrev pub allows : Machine → Leaves → ℕ → Bool
-allows m Any = may_begin m
-allows m (State q) = eqb q
+abbrev pub allows : Machine → Option ℕ → ℕ → Bool
+allows m None = may_begin m
+allows m (Some q) = eqb q
 
 -- in the figures of the rows the search is that of the definition, where the next pair leaves a state in which a
 -- sequence may begin
-module _ {m : Machine} (closed : Closed m) {t n left : ℕ} (leaves : Leaves) {later : List ℕ}
+module _ {m : Machine} (closed : Closed m) {t n left : ℕ} (leaves : Option ℕ) {later : List ℕ}
     (begins : (q : ℕ) → allows m leaves q ≡ true → may_begin m q ≡ true) (back : IsBack m (requested m) (suc t) n later)
     (goal : left ≡ best m (requested m) t (suc n) (allows m leaves)) (j : ℕ) (l : j < count m) where
   source : ℕ
@@ -81,10 +104,10 @@ module _ {m : Machine} (closed : Closed m) {t n left : ℕ} (leaves : Leaves) {l
   follows : ℕ
   follows = best m (requested m) (suc t) n (after m j)
 
-  allowed : (who : Leaves) → may_begin m source ≡ true → may_leave who source ≡ allows m who source
+  allowed : (who : Option ℕ) → may_begin m source ≡ true → may_leave who source ≡ allows m who source
   unfolding source
-  allowed Any b = sym b
-  allowed (State p) b = refl
+  allowed None b = sym b
+  allowed (Some p) b = refl
 
   makes_now : may_trigger m t j ≡ true
       → makes_at m t leaves left later j ≡ is_making m (requested m) t n (allows m leaves) j

@@ -1,13 +1,11 @@
 -- Lent words, read as pairs.
-use Prim.Native.Nat.{ℕ, suc, ◌+◌, ◌*◌, ◌≤◌, ◌<◌}
-use mathlib.Core.Path.{◌≡◌, refl, ◌∙◌, ap}
-use mathlib.Core.List.{List, [], ◌∷◌, ◌++◌, append_assoc}
+use Prim.Native.Nat.{ℕ, ◌*◌}
+use mathlib.Core.Path.{◌≡◌, refl, ap}
+use mathlib.Core.List.{List, [], ◌∷◌, ◌++◌}
 use native.Mathlib.Omega.{arith}
-use lib.ListN.{length, take, set, length-set, length-take}
-use lib.Seq.{take-suc-set}
+use lib.ListN.{length}
 use Rattle.model.specs.Legal.{Pair}
 use Rattle.critical.specs.Critical.{words_of, pairs_in}
-use Rattle.critical.specs.Inside.{Holds}
 
 -- the words of a sequence are two for each pair
 pub words_length : (σ : List Pair) → length (words_of σ) ≡ 2 * length σ
@@ -20,21 +18,3 @@ pub words_pairs : (σ : List Pair) (rest : List ℕ) → pairs_in (length σ) (w
 unfolding words_of pairs_in
 words_pairs [] rest = refl
 words_pairs (p ∷ σ) rest = ap (λ τ. p ∷ τ) (words_pairs σ rest)
-
--- a pair is written behind n others
-pub pair_written : (words : List ℕ) (n k t : ℕ) → 2 * n + 1 < length words
-    → take (2 * (n + 1)) (set (set words (2 * n) k) (2 * n + 1) t) ≡ take (2 * n) words ++ (k ∷ t ∷ [])
-pair_written words n k t l =
-    let two : 2 * (n + 1) ≡ suc (2 * n + 1) = omega arith in
-    let one : 2 * n + 1 ≡ suc (2 * n) = omega arith in
-    let first : take (2 * n + 1) (set words (2 * n) k) ≡ take (2 * n) words ++ (k ∷ []) =
-    rw one (take-suc-set words (2 * n) k (omega arith)) in
-    rw two
-    (take-suc-set (set words (2 * n) k) (2 * n + 1) t (rw length-set l)
-    ∙ ap (λ l. l ++ (t ∷ [])) first
-    ∙ append_assoc (take (2 * n) words) (k ∷ []) (t ∷ []))
-
--- words that hold a sequence have room for it
-pub holds_room : {σ : List Pair} {n : ℕ} {words : List ℕ} → Holds σ n words → 2 * n ≤ length words
-holds_room {σ} {n} {words} h =
-    omega (arith, h.number, ap length h.pairs, length-take (2 * n) words, words_length σ)

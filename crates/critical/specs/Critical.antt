@@ -8,10 +8,8 @@ use Rattle.model.specs.Legal.{Pair}
 use Rattle.model.specs.Reckon.{pair}
 use Rattle.model.specs.Critical.{IsCritical, critical}
 use Rattle.reply.specs.declared.Refusal.{Refusal}
-use Rattle.reply.specs.declared.Answer.{Answer}
 use Rattle.reply.specs.Reply.{Reply, answer, ◌or_else◌, ◌otherwise◌}
 use Rattle.reply.specs.Lent.{rule12, in_front, unless_refused}
-use Rattle.reply.specs.Answer.{Figure}
 use Rattle.sheet.specs.Format.{decode}
 use Rattle.window.specs.Window.{question_refusal}
 
@@ -47,6 +45,6 @@ unfoldable pub pairs_in : ℕ → List ℕ → List Pair
 pairs_in zero words = []
 pairs_in (suc n) words = pair (get_or words 0 0) (get_or words 1 0) ∷ pairs_in n (drop 2 words)
 
--- where the answer is a number, the words begin with as many pairs, and these are the critical sequence
-abbrev pub HoldsCritical : Machine → ℕ → ℕ → List ℕ → Answer → Type 0
-HoldsCritical m s f words = Figure (λ n. IsCritical m s f (pairs_in n words))
+-- the words begin with n pairs, and these are the critical sequence
+abbrev pub HoldsCritical : Machine → ℕ → ℕ → List ℕ → ℕ → Type 0
+HoldsCritical m s f words n = IsCritical m s f (pairs_in n words)

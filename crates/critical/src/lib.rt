@@ -4,81 +4,64 @@
 
 mod forward;
 
-ghost use Rattle.std.specs.Prelude.{◌≡◌, length};
+ghost use Rattle.std.specs.Prelude.{◌≡◌, IfOk};
 ghost use Rattle.model.specs.Machine.{machine_of};
+ghost use Rattle.model.specs.Critical.{critical};
 ghost use Rattle.reply.specs.Answer.{paper};
 ghost use Rattle.sheet.specs.Format.{decode};
-ghost use Rattle.window.specs.Inside.{Proper};
-ghost use Rattle.rows.specs.Inside.{MaskedWindow, rows_size};
-ghost use Rattle.critical.specs.Critical.{longest_words, sequence_of, critical_reply, critical_words, HoldsCritical};
-ghost use Rattle.critical.specs.Inside.{masked_sequence, Holds};
+ghost use Rattle.sheet.specs.Meant.{meant};
+ghost use Rattle.critical.specs.Critical.{words_of, critical_reply, critical_words, HoldsCritical};
 
+use arrayvec::ArrayVec;
 use model::LONGEST_WINDOW;
-use reply::{Answer, Rule};
-use rows::ROWS_SIZE;
-use sheet::Entry;
+use reply::Reason;
+use rows::MaskedWindow;
+use walk::{Row, WINDOW_MASKS};
+use window::MachineWindow;
 
-// The words of the longest sequence: at most one pair for each tick.
+// The words of the longest sequence: two for each pair, and at most one pair for each tick.
 pub const LONGEST_WORDS: usize = 2 * LONGEST_WINDOW as usize;
 
 // The critical sequence of a machine and the window from `from` to `to`: its number of pairs, and in
 // `words` two words a pair, the action and the instant; words beyond stay as they were. Or the
-// refusal: 1 to 11, and 12 where the pairs have no room in `words`, of which then every word stays.
-pub fn critical(sheet: &[u8], machine: u32, from: u32, to: u32, words: &mut [u32]) -> Answer
-    ensures says { paper result ≡ critical_reply sheet.now machine from to words.old }
-    ensures writes { words.new ≡ critical_words sheet.now machine from to words.old }
-    ensures promises { HoldsCritical (machine_of (decode sheet.now) machine) from to words.new result }
-{
-    let rule = window::question_rule(sheet, machine, from as u64, to as u64);
-    if let Rule::Broken(refusal) = rule {
-        return Answer::Refused(refusal);
-    }
-    let mut rows = [0u32; ROWS_SIZE];
-    let mut pairs = [0u32; LONGEST_WORDS];
-    let number = sequence_of(sheet, machine as usize, from, to, &mut rows, &mut pairs);
-    let needed = 2 * number;
-    if words.len() < needed {
-        return Answer::Refused(reply::placeless(12));
-    }
-    rows::copy(&pairs[..needed], &mut words[..needed]);
-    Answer::Value(number as u32)
-}
-
-// The critical sequence, of a sheet that is known to be accepted: its number of pairs, with which `pairs` then begins.
-// What `rows` held is lost.
-pub fn sequence_of(
+// reason why not: 1 to 11, and 12 where the pairs have no room in `words`, of which then every word stays.
+pub fn critical(
     sheet: &[u8],
-    machine: usize,
+    machine: u32,
     from: u32,
     to: u32,
-    rows: &mut [u32],
-    pairs: &mut [u32],
-) -> usize
-    requires proper { Proper sheet.now machine from to }
-    requires room { (length rows.old ≡ rows_size) × (length pairs.old ≡ longest_words) }
-    ensures { Holds (sequence_of sheet.now machine from to) result pairs.new }
+    words: &mut [u32],
+) -> Result<u32, Reason>
+    ensures says { paper result ≡ critical_reply sheet.now machine from to words.old }
+    ensures writes { words.new ≡ critical_words sheet.now machine from to words.old }
+    ensures promises { IfOk result (HoldsCritical (machine_of (decode sheet.now) machine) from to words.new) }
 {
-    let entry = sheet::entry_of(sheet, machine);
-    let length = (to - from) as usize;
-    let masks = walk::window_masks(sheet, entry, from, length);
-    masked_sequence(sheet, entry, from, &masks[..length], rows, pairs)
+    let window = window::window_of(sheet, machine, from, to as u64)?;
+    let mut rows = [[0; 16]; WINDOW_MASKS];
+    let pairs = sequence_of(&window, &mut rows);
+    let needed = pairs.len();
+    if words.len() < needed {
+        return Err(Reason::ShortOutput);
+    }
+    words[..needed].copy_from_slice(&pairs);
+    Ok((needed / 2) as u32)
 }
 
-// The same of the window's ticks that the masks mark.
-fn masked_sequence(
-    sheet: &[u8],
-    entry: Entry,
-    from: u32,
-    masks: &[u32],
-    rows: &mut [u32],
-    pairs: &mut [u32],
-) -> usize
-    requires masked_window { MaskedWindow sheet.now entry from masks.now }
-    requires room { (length rows.old ≡ rows_size) × (length pairs.old ≡ longest_words) }
-    ensures { Holds (masked_sequence sheet.now entry from masks.now) result
-        pairs.new }
+// The words of a window's critical sequence. What `rows` held is lost.
+pub fn sequence_of(
+    window: &MachineWindow<'_>,
+    rows: &mut [Row; WINDOW_MASKS],
+) -> ArrayVec<u32, LONGEST_WORDS>
+    ensures { result.items ≡ words_of (critical (meant window.now.machine) window.now.from window.now.length) }
 {
-    let first = rows::lay_rows(sheet, entry, from, masks, rows);
-    let bound = walk::top(&first, entry.states);
-    forward::trace(sheet, entry, from, bound, masks, rows, pairs)
+    let length = window.length as usize;
+    let masks = walk::window_masks(&window.machine, window.from, length);
+    let window = MaskedWindow {
+        machine: window.machine,
+        from: window.from,
+        masks: &masks[..length],
+    };
+    rows::lay_rows(&window, rows);
+    let bound = walk::top(&rows[0], window.machine.states());
+    forward::trace(&window, bound, rows)
 }

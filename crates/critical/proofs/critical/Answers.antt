@@ -1,71 +1,24 @@
-use Rattle.std.proofs.Common.{◌<◌, ◌*◌, length, sym, ◌∙◌, ap, arith}
-use Rattle.std.proofs.Math.Seq.{length-take-le}
-use Rattle.reply.specs.Inside.{paper}
-use Rattle.reply.specs.Reply.{refused}
-use Rattle.window.proofs.Replies.{proper}
-use Rattle.critical.specs.Critical.{sequence_of}
-use Rattle.critical.proofs.Words.{holds_room}
-use Rattle.critical.proofs.Replies.{refusal_question, refusal_short, critical_refused, critical_found}
+use Rattle.std.proofs.Common.{◌∙◌, arith}
+use Rattle.std.proofs.lemmas.Result.{err_from_is_err_and}
+use Rattle.critical.proofs.Replies.{question_refused, sequence_short, sequence_found}
 use Rattle.critical.proofs.critical.Goals as goal
 
-pub returns-in-Broken-clause-says : goal.returns-in-Broken-clause-says
-returns-in-Broken-clause-says c =
-    let broken = sym c.question_rule-rule.ensures ∙ ap paper c.in-Broken.is in
-    (critical_refused _ _ _ _ _ (refusal_question _ _ _ _ _ broken)).0
+pub returns-in_err-window : goal.returns-in_err-window
+returns-in_err-window c =
+    let p = err_from_is_err_and c.from_residual.result c.from_residual.ensures.1 in
+    let met = question_refused _ _ _ _ _ _ c.in_err-window.ensures.refused in
+    record { says = rw (p.1, p.2) met.0; writes = met.1.0; promises = rw p.1 tt }
 
-pub returns-in-Broken-clause-writes : goal.returns-in-Broken-clause-writes
-returns-in-Broken-clause-writes c =
-    let broken = sym c.question_rule-rule.ensures ∙ ap paper c.in-Broken.is in
-    (critical_refused _ _ _ _ _ (refusal_question _ _ _ _ _ broken)).1.0
+pub returns-then-words-needed : goal.returns-then-words-needed
+returns-then-words-needed c =
+    let called = c.in_ok-window.ensures in
+    let met = sequence_short _ _ _ _ c.args.words.now called.refused called.window c.sequence_of-pairs.ensures
+    (omega arith) in
+    record { says = met.0; writes = met.1.0; promises = tt }
 
-pub sequence_of-number-requires-clause-proper : goal.sequence_of-number-requires-clause-proper
-sequence_of-number-requires-clause-proper c =
-    proper _ _ _ _ (sym c.question_rule-rule.ensures ∙ ap paper c.in_default.is)
-
-pub overflow_mul-needed : goal.overflow_mul-needed
-overflow_mul-needed c =
-    let room = holds_room c.sequence_of-number.ensures in
-    let long = c.sequence_of-number.auto.pairs in
-    omega arith
-
-pub returns-then-words-needed-clause-says : goal.returns-then-words-needed-clause-says
-returns-then-words-needed-clause-says c =
-    let kept = sym c.question_rule-rule.ensures ∙ ap paper c.in_default.is in
-    let short : length c.args.words.now
-    < 2 * length (sequence_of c.args.sheet.now c.args.machine c.args.from c.args.to) =
-    omega (arith, c.sequence_of-number.ensures.number) in
-    ap refused c.placeless.ensures ∙ (critical_refused _ _ _ _ _ (refusal_short _ _ _ _ _ kept short)).0
-
-pub returns-then-words-needed-clause-writes : goal.returns-then-words-needed-clause-writes
-returns-then-words-needed-clause-writes c =
-    let kept = sym c.question_rule-rule.ensures ∙ ap paper c.in_default.is in
-    let short : length c.args.words.now
-    < 2 * length (sequence_of c.args.sheet.now c.args.machine c.args.from c.args.to) =
-    omega (arith, c.sequence_of-number.ensures.number) in
-    (critical_refused _ _ _ _ _ (refusal_short _ _ _ _ _ kept short)).1.0
-
-pub slice_bounds-pairs-end : goal.slice_bounds-pairs-end
-slice_bounds-pairs-end c = holds_room c.sequence_of-number.ensures
-
-pub slice_bounds-copy-end : goal.slice_bounds-copy-end
-slice_bounds-copy-end c = sym (length-take-le _ _ (holds_room c.sequence_of-number.ensures))
-
-pub copy-requires : goal.copy-requires
-copy-requires c =
-    length-take-le _ _ (holds_room c.sequence_of-number.ensures)
-    ∙ sym (length-take-le _ _ c.if-words-needed.false)
-
-pub returns-clause-says : goal.returns-clause-says
-returns-clause-says c =
-    let kept = sym c.question_rule-rule.ensures ∙ ap paper c.in_default.is in
-    (critical_found _ _ _ _ _ kept c.sequence_of-number.ensures c.if-words-needed.false c.copy.ensures).0
-
-pub returns-clause-writes : goal.returns-clause-writes
-returns-clause-writes c =
-    let kept = sym c.question_rule-rule.ensures ∙ ap paper c.in_default.is in
-    (critical_found _ _ _ _ _ kept c.sequence_of-number.ensures c.if-words-needed.false c.copy.ensures).1.0
-
-pub returns-clause-promises : goal.returns-clause-promises
-returns-clause-promises c =
-    let kept = sym c.question_rule-rule.ensures ∙ ap paper c.in_default.is in
-    (critical_found _ _ _ _ _ kept c.sequence_of-number.ensures c.if-words-needed.false c.copy.ensures).1.1
+pub returns : goal.returns
+returns c =
+    let called = c.in_ok-window.ensures in
+    let met = sequence_found _ _ _ _ c.args.words.now called.refused called.window c.sequence_of-pairs.ensures
+    c.len-needed.ensures.value (c.copy_from_slice.ensures.after ∙ c.deref.ensures.0) c.if-words-needed.false in
+    record { says = met.0; writes = met.1.0; promises = met.1.1 }

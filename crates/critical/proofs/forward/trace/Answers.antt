@@ -1,41 +1,68 @@
-use Rattle.std.proofs.Common.{arith, ◌<◌}
-use Rattle.model.specs.Machine.{count}
+use Rattle.std.proofs.Common.{◌<◌, length, ap, arith}
+use Rattle.model.specs.declared.Action.{Action}
 use Rattle.model.proofs.Accepted.{sizes_closed}
-use Rattle.sheet.specs.Inside.{machine_at}
-use Rattle.sheet.proofs.Entries.{entry_sizes}
-use Rattle.rows.proofs.Rows.{back_ready, masked_short}
-use Rattle.critical.proofs.Tracing.{tracing_begin, tick_read, tracing_waits, tracing_takes, tracing_end}
+use Rattle.sheet.proofs.Entries.{meant_sizes}
+use Rattle.rows.proofs.Rows.{back_ready}
+use Rattle.critical.proofs.Making.{making_known}
+use Rattle.critical.proofs.Tracing.{tracing_begin, tracing_waits, tracing_takes, tracing_end, parts}
 use Rattle.critical.proofs.forward.trace.Goals as goal
-use Rattle.critical.proofs.forward.trace.Goals.{then-j-entry, else-j-entry}
+use Rattle.critical.proofs.forward.trace.Goals.{in-Some, in_default}
 
 pub loop-k-init : goal.loop-k-init
-loop-k-init c = tracing_begin c.requires.masked_window.1 c.requires.is_bound
+loop-k-init c = tracing_begin c.new-pairs.ensures c.requires.is_bound
 
-pub first_making-j-requires-clause-entry : goal.first_making-j-requires-clause-entry
-first_making-j-requires-clause-entry c =
-    let marked = c.requires.masked_window.0 in
-    let few = masked_short marked in
-    let tick = tick_read marked.all c.requires.rows c.loop-k-test.true few in
-    (marked.entry, back_ready (entry_sizes marked.entry) tick.figures (omega arith) tick.marks)
+pub first_making-requires : goal.first_making-requires
+first_making-requires c =
+    let window = c.args.window.now in
+    back_ready (meant_sizes window.machine) (c.requires.rows.at _ (omega arith) (omega arith)) (omega arith)
+    (window.marked.at _ c.loop-k-test.true)
+
+pub cost-left-requires : goal.cost-left-requires
+cost-left-requires c = making_known c.in-Some.ensures (c.args.window.now.marked.at _ c.loop-k-test.true)
+
+pub overflow_sub-left : goal.overflow_sub-left
+overflow_sub-left c =
+    let window = c.args.window.now in
+    let closed = sizes_closed _ (meant_sizes window.machine) in
+    omega (
+      arith,
+      c.cost-left.ensures,
+      parts closed c.loop-k.invariant c.requires.rows c.loop-k-test.true (window.marked.at _ c.loop-k-test.true)
+          c.in-Some.ensures,
+    )
+
+pub action-requires : goal.action-requires
+action-requires c = making_known c.in-Some.ensures (c.args.window.now.marked.at _ c.loop-k-test.true)
+
+pub overflow_cast-j : goal.overflow_cast-j
+overflow_cast-j c =
+    let window = c.args.window.now in
+    let known = making_known c.in-Some.ensures (window.marked.at _ c.loop-k-test.true) in
+    omega (arith, known, (meant_sizes window.machine).actions)
+
+pub push-requires : goal.push-requires
+push-requires c =
+    let room : length c.loop-k.pairs.items < 4096 = omega arith in (omega arith, room)
+
+pub push-requires-in-Some : goal.push-requires-in-Some
+push-requires-in-Some c =
+    let room : length c.push.new.self.items < 4096 = omega arith in (omega arith, room)
 
 pub loop-k-preserved : goal.loop-k-preserved
 loop-k-preserved c =
-    let marked = c.requires.masked_window.0 in
-    let closed = sizes_closed _ (entry_sizes marked.entry) in
-    let few = masked_short marked in
-    let tick = tick_read marked.all c.requires.rows c.loop-k-test.true few in
-    let first = c.first_making-j.ensures in
-    let inv = c.loop-k.invariant in
-    elim c.if-j-entry.branch [
-      | then-j-entry w ↦
-          let known : c.first_making-j.result < count (machine_at c.args.sheet.now c.args.entry) =
-          omega (arith, marked.entry.has.actions, w.if-j-entry.true) in
-          rw (w.pairs-is, w.leaves-is, w.left-is, w.number-is)
-          (tracing_takes closed inv tick first known w.cost-left.ensures w.sink.ensures w.put_pair.ensures few)
-      | else-j-entry w ↦
-          rw (w.pairs-is, w.leaves-is, w.left-is, w.number-is)
-          (tracing_waits closed inv tick first (omega (arith, marked.entry.has.actions, w.if-j-entry.false)))
+    let window = c.args.window.now in
+    let closed = sizes_closed _ (meant_sizes window.machine) in
+    let marks = window.marked.at _ c.loop-k-test.true in
+    elim c.match-first_making.branch [
+      | in-Some w ↦
+          rw (w.pairs-is, w.leaves-is, w.left-is)
+          (tracing_takes closed c.loop-k.invariant c.requires.rows c.loop-k-test.true marks w.in-Some.ensures
+          w.cost-left.ensures (ap (λ (a : Action). a.sink) w.action.ensures) w.push.ensures.items
+          w.push-in-Some.ensures.items)
+      | in_default w ↦
+          rw (w.pairs-is, w.leaves-is, w.left-is)
+          (tracing_waits closed c.loop-k.invariant c.requires.rows c.loop-k-test.true marks w.in_default.ensures)
     ]
 
 pub returns : goal.returns
-returns c = tracing_end c.loop-k.invariant c.loop-k-test.false (masked_short c.requires.masked_window.0)
+returns c = tracing_end c.loop-k.invariant c.loop-k-test.false
