@@ -23,7 +23,7 @@ use Rattle.reply.proofs.Unique.{answer_unique}
 use Rattle.sheet.specs.Format.{decode}
 use Rattle.sheet.specs.Meant.{meant}
 use Rattle.sheet.proofs.Entries.{meant_sizes}
-use Rattle.window.specs.declared.MachineWindow.{MachineWindow}
+use Rattle.window.specs.declared.machine_window.MachineWindow.{MachineWindow}
 use Rattle.window.specs.Window.{question_refusal}
 use Rattle.window.specs.Inside.{IsWindowOf}
 use Rattle.critical.specs.Critical.{sequence_of, words_of, critical_refusal, critical_reply, critical_words}
@@ -49,16 +49,14 @@ module _ (b : List ℕ) (i s f lent : ℕ) where
 module _ {b : List ℕ} {i s f : ℕ} {w : MachineWindow} (is : IsWindowOf b i s f w) where
   pub window_sequence : critical (meant w.machine) w.from w.length ≡ sequence_of b i s f
   unfolding sequence_of
-  window_sequence =
-      let ticks : w.length ≡ f - s = omega (arith, is.to) in
-      rw (is.machine, is.from, ticks) refl
+  window_sequence = rw (is.machine, is.from, is.length) refl
 
   -- and it is critical: a cost is at least 1
   sequence_is : IsCritical (machine_of (decode b) i) s f (sequence_of b i s f)
   unfolding sequence_of
   sequence_is =
       let sizes : MachineSizes (machine_of (decode b) i) = subst MachineSizes is.machine (meant_sizes w.machine) in
-      critical_is (machine_of (decode b) i) (λ k l. (sizes_cost _ sizes k l).0) s (f - s) f (omega (arith, is.to))
+      critical_is (machine_of (decode b) i) (λ k l. (sizes_cost _ sizes k l).0) s (f - s) f is.to
 
 -- what the contract says: the reply, the words afterwards, and that they hold the critical sequence
 abbrev Meets : List ℕ → ℕ → ℕ → ℕ → List ℕ → List ℕ → Result ℕ Reason → Type 0

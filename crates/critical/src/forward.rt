@@ -1,6 +1,5 @@
 // The walk forward: at each tick the smallest action that makes up what is left of the bound.
 ghost use Rattle.std.specs.Prelude.{◌≡◌, length};
-ghost use Rattle.model.specs.Reckon.{request};
 ghost use Rattle.sheet.specs.Meant.{meant};
 ghost use Rattle.walk.specs.Inside.{Ready, Joins};
 ghost use Rattle.rows.specs.Inside.{Rows};
@@ -14,19 +13,17 @@ use rows::MaskedWindow;
 use sheet::Machine;
 use walk::{Marked, Row, WINDOW_MASKS};
 
-// Traces the critical sequence of a window's ticks, where the request bound is `bound`: two words a pair.
+// Traces the critical sequence of a window's ticks by its rows: two words a pair.
 pub(crate) fn trace(
     window: &MaskedWindow<'_>,
-    bound: u32,
     rows: &[Row; WINDOW_MASKS],
 ) -> ArrayVec<u32, LONGEST_WORDS>
-    requires rows { Rows (meant window.now.machine) window.now.from (length window.now.masks.now) 0 rows.now }
-    requires is_bound { bound ≡ request (meant window.now.machine) window.now.from (length window.now.masks.now) }
+    requires { Rows (meant window.now.machine) window.now.from (length window.now.masks.now) 0 rows.now }
     ensures { result.items ≡ words_of (masked_sequence window.now) }
 {
     let mut pairs = ArrayVec::new();
     let mut leaves = None;
-    let mut left = bound;
+    let mut left = walk::top(&rows[0], window.machine.states());
     for (k, &mask) in window.masks.iter().enumerate() {
         if let Some(j) = first_making(&window.machine, mask, leaves, left, &rows[k + 1]) {
             left -= window.machine.cost(j);

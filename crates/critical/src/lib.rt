@@ -62,6 +62,5 @@ pub fn sequence_of(
         masks: &masks[..length],
     };
     rows::lay_rows(&window, rows);
-    let bound = walk::top(&rows[0], window.machine.states());
-    forward::trace(&window, bound, rows)
+    forward::trace(&window, rows)
 }

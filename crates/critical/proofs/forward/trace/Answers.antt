@@ -2,19 +2,21 @@ use Rattle.std.proofs.Common.{◌<◌, length, ap, arith}
 use Rattle.model.specs.declared.Action.{Action}
 use Rattle.model.proofs.Accepted.{sizes_closed}
 use Rattle.sheet.proofs.Entries.{meant_sizes}
-use Rattle.rows.proofs.Rows.{back_ready}
+use Rattle.rows.proofs.Rows.{rows_top, back_ready}
 use Rattle.critical.proofs.Making.{making_known}
 use Rattle.critical.proofs.Tracing.{tracing_begin, tracing_waits, tracing_takes, tracing_end, parts}
 use Rattle.critical.proofs.forward.trace.Goals as goal
 use Rattle.critical.proofs.forward.trace.Goals.{in-Some, in_default}
 
 pub loop-k-init : goal.loop-k-init
-loop-k-init c = tracing_begin c.new-pairs.ensures c.requires.is_bound
+loop-k-init c =
+    let sizes = meant_sizes c.args.window.now.machine in
+    tracing_begin c.new-pairs.ensures (rows_top sizes c.requires c.states.ensures c.top-left.ensures)
 
 pub first_making-requires : goal.first_making-requires
 first_making-requires c =
     let window = c.args.window.now in
-    back_ready (meant_sizes window.machine) (c.requires.rows.at _ (omega arith) (omega arith)) (omega arith)
+    back_ready (meant_sizes window.machine) (c.requires.at _ (omega arith) (omega arith)) (omega arith)
     (window.marked.at _ c.loop-k-test.true)
 
 pub cost-left-requires : goal.cost-left-requires
@@ -27,7 +29,7 @@ overflow_sub-left c =
     omega (
       arith,
       c.cost-left.ensures,
-      parts closed c.loop-k.invariant c.requires.rows c.loop-k-test.true (window.marked.at _ c.loop-k-test.true)
+      parts closed c.loop-k.invariant c.requires c.loop-k-test.true (window.marked.at _ c.loop-k-test.true)
           c.in-Some.ensures,
     )
 
@@ -56,12 +58,12 @@ loop-k-preserved c =
     elim c.match-first_making.branch [
       | in-Some w ↦
           rw (w.pairs-is, w.leaves-is, w.left-is)
-          (tracing_takes closed c.loop-k.invariant c.requires.rows c.loop-k-test.true marks w.in-Some.ensures
+          (tracing_takes closed c.loop-k.invariant c.requires c.loop-k-test.true marks w.in-Some.ensures
           w.cost-left.ensures (ap (λ (a : Action). a.sink) w.action.ensures) w.push.ensures.items
           w.push-in-Some.ensures.items)
       | in_default w ↦
           rw (w.pairs-is, w.leaves-is, w.left-is)
-          (tracing_waits closed c.loop-k.invariant c.requires.rows c.loop-k-test.true marks w.in_default.ensures)
+          (tracing_waits closed c.loop-k.invariant c.requires c.loop-k-test.true marks w.in_default.ensures)
     ]
 
 pub returns : goal.returns
