@@ -56,7 +56,7 @@ module _ {b : List ℕ} {i s f : ℕ} {w : MachineWindow} (is : IsWindowOf b i s
   unfolding sequence_of
   sequence_is =
       let sizes : MachineSizes (machine_of (decode b) i) = subst MachineSizes is.machine (meant_sizes w.machine) in
-      critical_is (machine_of (decode b) i) (λ k l. (sizes_cost _ sizes k l).0) s (f - s) f is.to
+      critical_is (machine_of (decode b) i) (λ k l. (sizes_cost _ sizes k l).0) s (f - s) f (rw is.length at is.to)
 
 -- what the contract says: the reply, the words afterwards, and that they hold the critical sequence
 abbrev Meets : List ℕ → ℕ → ℕ → ℕ → List ℕ → List ℕ → Result ℕ Reason → Type 0
