@@ -54,7 +54,8 @@ module _ {m : Machine} {s n : ℕ} (sizes : MachineSizes m) (short : n ≤ longe
       here =
           let tick : s + k ≡ s + (k - 1) + 1 = omega arith in
           let left : n - k + 1 ≡ n - (k - 1) = omega arith in
-          rw left at (back_earlier m (requested m) (sizes_closed m sizes) (s + (k - 1)) (n - k) (get_or rows k []) earlier
+          let row = get_or rows k [] in
+          rw left at (back_earlier m (requested m) (sizes_closed m sizes) (s + (k - 1)) (n - k) row earlier
           (rw tick at (h.at k (omega arith) early)) (rw next at (e.moved _ g)))
 
 -- the largest figure of the first row is the request bound
