@@ -1,7 +1,7 @@
 -- The tests of rules 1 to 8, as the code reckons them and as facts.
 use Prim.Native.Nat.{ℕ, ◌+◌, ◌*◌}
 use mathlib.Core.Path.{◌≡◌, refl, sym, ◌∙◌, ap, ap₂}
-use mathlib.Core.Bool.{Bool, true, ◌&&◌, false≢true}
+use mathlib.Core.Bool.{true, ◌&&◌}
 use mathlib.Core.List.{List, [], ◌∷◌}
 use Rattle.std.specs.Prelude.{None, Some}
 use native.Mathlib.Omega.{arith}
@@ -21,24 +21,6 @@ pub between_true : (low high n : ℕ) → between low high n ≡ true → Betwee
 between_true low high n e =
     let (a, b) = both_true (leb low n) (leb n high) e in
     (leb-true low n a, leb-true n high b)
-
-same_equal : (xs ys : List ℕ) → same xs ys ≡ true → xs ≡ ys
-unfolding same
-same_equal [] [] e = refl
-same_equal [] (y ∷ ys) e = absurd (false≢true e)
-same_equal (x ∷ xs) [] e = absurd (false≢true e)
-same_equal (x ∷ xs) (y ∷ ys) e =
-    let (a, b) = both_true (eqb x y) (same xs ys) e in
-    ap₂ ◌∷◌ (eqb-true x y a) (same_equal xs ys b)
-
-same_self : (xs : List ℕ) → same xs xs ≡ true
-unfolding same
-same_self [] = refl
-same_self (x ∷ xs) = ap₂ ◌&&◌ (eq-eqb x x refl) (same_self xs)
-
-pub same_test : (xs ys : List ℕ) (r : Bool) → (r ≡ true → xs ≡ ys) × (xs ≡ ys → r ≡ true) → r ≡ same xs ys
-same_test xs ys r (there, back) =
-    test_same r (same xs ys) (λ e. rw (there e) (same_self ys), λ e. back (same_equal xs ys e))
 
 eqb_comm : (x y : ℕ) → eqb x y ≡ eqb y x
 eqb_comm x y =
