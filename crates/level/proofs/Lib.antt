@@ -1,3 +1,4 @@
+pub mod Phases
 pub mod Moving
 pub mod Half
-pub mod Masking
+pub mod Onward

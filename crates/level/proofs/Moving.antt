@@ -1,5 +1,5 @@
 -- A machine's progress, moved on by a tick.
-use Prim.Native.Nat.{ℕ}
+use Prim.Native.Nat.{ℕ, ◌<◌}
 use mathlib.Core.Path.{◌≡◌, refl, sym, ◌∙◌}
 use mathlib.Core.List.{List}
 use native.Mathlib.Omega.{arith}
@@ -8,10 +8,17 @@ use Rattle.model.specs.Machine.{Machine}
 use Rattle.model.specs.Sizes.{MachineSizes}
 use Rattle.model.specs.Reckon.{most}
 use Rattle.model.specs.Inside.{figure}
+use Rattle.sheet.specs.declared.accepted.Sheet.{Sheet}
+use Rattle.sheet.specs.Meant.{machine_meant}
+use Rattle.sheet.proofs.Entries.{machine_sizes}
 use Rattle.walk.specs.Inside.{Ready, Ticked}
 use Rattle.walk.proofs.Front.{row_ready, row_ticked, row_idle, row_top}
 use Rattle.level.specs.declared.Progress.{Progress}
 use Rattle.level.specs.Inside.{Standing, Moved}
+
+-- the machines of a sheet keep to their sizes
+pub sheet_sizes : (sheet : Sheet) (i : ℕ) → i < sheet.machines → MachineSizes (machine_meant sheet i)
+sheet_sizes sheet i l = machine_sizes sheet.counted.accepted i (omega (arith, sheet.counted.count))
 
 module _ {m : Machine} (sizes : MachineSizes m) where
   pub standing_ready : {mask : ℕ} {progress : Progress} → Standing m mask progress → Ready m mask progress.row

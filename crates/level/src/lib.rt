@@ -1,106 +1,142 @@
 // The machines from 0 to the one that is judged, walked together tick by tick. Definitions: specs/Inside.antt.
 #![tactic(auto)]
 
-pub mod masks;
+mod masked;
 
-ghost use Rattle.std.specs.Prelude.{◌<◌};
-ghost use Rattle.model.specs.Machine.{machine_of};
+ghost use Rattle.std.specs.Prelude.{◌≡◌, ◌+◌, ◌%◌, ◌≤◌, ◌<◌};
+ghost use Rattle.model.specs.Limits.{longest_window};
+ghost use Rattle.model.specs.Machine.{machine_of, hyperperiod};
+ghost use Rattle.model.specs.Reckon.{demand};
 ghost use Rattle.sheet.specs.Format.{machine_count, decode};
-ghost use Rattle.sheet.specs.Inside.{Accepted};
-ghost use Rattle.level.specs.Inside.{Standing, Moved, Begun, BeforeTick, LevelMoved};
+ghost use Rattle.sheet.specs.Meant.{machine_meant};
+ghost use Rattle.level.specs.Inside.{Standing, Moved, LevelAt, LevelStands, LevelMoved, LevelOnward};
 
-use masks::STRIDE;
+pub use masked::MaskedSheet;
+
 use model::Way;
+use sheet::Sheet;
+use walk::{LastInstant, Row};
 
 // A machine in the walk: a figure a state, and the largest of them.
 #[derive(Clone, Copy)]
 pub struct Progress {
-    pub row: [u32; 16],
+    pub row: Row,
     pub top: u32,
 }
 
-// Machines 0 to i in the walk for machine i: their progress, the requests above i added, i's own; and of
-// i's last instant so far the row before it, its mask, and how many ticks from the start it is.
+// Machines 0 to `machine` in the walk for that machine, so many ticks from a start, and the phase of the next tick in the
+// hyperperiod: their progress, the requests above the machine added, its own, and its last instant.
 #[derive(Clone, Copy)]
 pub struct Level {
+    pub machine: usize,
+    pub start: u32,
+    pub ticks: u32,
+    pub phase: usize,
     pub progress: [Progress; 8],
     pub above: u32,
     pub own: u32,
-    pub row: [u32; 16],
-    pub mask: u32,
-    pub last: u32,
+    pub last: LastInstant,
 }
 
-// A machine's progress after a tick at which the actions of the mask have an instant.
-fn progress_moved(sheet: &[u8], machine: usize, mask: u32, progress: Progress) -> Progress
-    requires { Accepted sheet.now × (machine < machine_count sheet.now)
-        × Standing (machine_of (decode sheet.now) machine) mask progress }
-    ensures { Moved (machine_of (decode sheet.now) machine) mask progress result }
-{
-    if mask == 0 {
-        return progress;
-    }
-    let entry = sheet::entry_of(sheet, machine);
-    let old = progress.row;
-    let row = walk::tick(sheet, entry, mask, Way::On, old);
-    Progress {
-        top: walk::top(&row, entry.states),
-        row,
+impl Progress {
+    // The progress after a tick at which the actions of the mask have an instant.
+    fn moved(&self, sheet: &Sheet<'_>, machine: usize, mask: u32) -> Progress
+        requires { (machine < sheet.now.machines) × Standing (machine_meant sheet.now machine) mask self.now }
+        ensures { Moved (machine_meant sheet.now machine) mask self.now result }
+    {
+        if mask == 0 {
+            return *self;
+        }
+        let machine = sheet.machine(machine);
+        let row = walk::tick(&machine, mask, Way::On, &self.row);
+        let top = walk::top(&row, machine.states());
+        Progress { row, top }
     }
 }
 
-// A level before its first tick, which the mask marks for its own machine.
-pub fn level_begun(mask: u32) -> Level
-    ensures { Begun mask result }
-{
-    let progress = Progress {
-        row: [0; 16],
-        top: 0,
-    };
-    Level {
-        progress: [progress; 8],
-        above: 0,
-        own: 0,
-        row: [0; 16],
-        mask,
-        last: 0,
+impl Level {
+    // A machine's level before the first tick from a start.
+    pub fn begun(sheet: &MaskedSheet<'_>, machine: usize, start: u32) -> Self
+        requires { (machine < machine_count sheet.now.sheet.bytes.now)
+            × (start < hyperperiod (decode sheet.now.sheet.bytes.now)) }
+        ensures { LevelAt sheet.now.sheet.bytes.now machine start 0 result }
+    {
+        let row = [0; 16];
+        let phase = start as usize;
+        Level {
+            machine,
+            start,
+            ticks: 0,
+            phase,
+            progress: [Progress { row, top: 0 }; 8],
+            above: 0,
+            own: 0,
+            last: LastInstant {
+                ticks: 0,
+                mask: sheet.masks[machine][phase],
+                row,
+            },
+        }
+    }
+
+    // Goes on by a tick.
+    pub fn tick(&mut self, sheet: &MaskedSheet<'_>)
+        requires { LevelStands sheet.now.sheet.bytes.now self.old × (self.old.ticks < longest_window) }
+        ensures { LevelOnward sheet.now.sheet.bytes.now self.old self.new }
+    {
+        if sheet.lowest[self.phase] as usize <= self.machine {
+            self.walk(sheet);
+        }
+        self.ticks += 1;
+        self.phase = phase_after(self.phase, sheet.sheet.hyperperiod as usize);
+    }
+
+    // Moves the machines on by a tick.
+    fn walk(&mut self, sheet: &MaskedSheet<'_>)
+        requires { LevelStands sheet.now.sheet.bytes.now self.old × (self.old.ticks < longest_window) }
+        ensures { LevelMoved sheet.now.sheet.bytes.now self.old self.new }
+    {
+        let (machine, phase) = (self.machine, self.phase);
+        let mut above = 0;
+        for j in 0..machine {
+            let moved = self.progress[j].moved(&sheet.sheet, j, sheet.masks[j][phase]);
+            self.progress[j] = moved;
+            above += moved.top;
+        }
+        let mask = sheet.masks[machine][phase];
+        let before = self.progress[machine];
+        let own = before.moved(&sheet.sheet, machine, mask);
+        self.progress[machine] = own;
+        self.above = above;
+        self.own = own.top;
+        if mask != 0 {
+            let row = before.row;
+            self.last = LastInstant {
+                ticks: self.ticks,
+                mask,
+                row,
+            };
+        }
+    }
+
+    // The demand bound of its machine from the start to where it stands.
+    pub fn demand(&self, sheet: &MaskedSheet<'_>) -> u32
+        requires { LevelStands sheet.now.sheet.bytes.now self.now }
+        ensures { result ≡ demand (machine_of (decode sheet.now.sheet.bytes.now) self.now.machine) self.now.start
+            self.now.ticks }
+    {
+        walk::due_within(
+            &sheet.sheet.machine(self.machine),
+            &self.last,
+            self.ticks - self.last.ticks,
+        )
     }
 }
 
-// Machines 0 to `machine` after the tick, n ticks from the start, that the masks at a phase mark.
-pub fn level_moved(
-    sheet: &[u8],
-    masks: &[u32],
-    phase: usize,
-    machine: usize,
-    n: u32,
-    level: Level,
-) -> Level
-    requires { BeforeTick sheet.now masks.now phase machine n level }
-    ensures { LevelMoved sheet.now masks.now phase machine n level result }
+// The phase after a phase, in a circle of h.
+fn phase_after(phase: usize, h: usize) -> usize
+    requires { phase < h }
+    ensures { result ≡ (phase + 1) % h }
 {
-    let mut next = level;
-    let mut above = 0;
-    let mut j = 0;
-    while j < machine {
-        let progress = next.progress[j];
-        let moved = progress_moved(sheet, j, masks[STRIDE * j + phase], progress);
-        next.progress[j] = moved;
-        above += moved.top;
-        j += 1;
-    }
-    let progress = next.progress[machine];
-    let mask = masks[STRIDE * machine + phase];
-    let own = progress_moved(sheet, machine, mask, progress);
-    next.progress[machine] = own;
-    next.above = above;
-    next.own = own.top;
-    if mask == 0 {
-        return next;
-    }
-    let row = progress.row;
-    next.row = row;
-    next.mask = mask;
-    next.last = n;
-    next
+    if phase + 1 == h { 0 } else { phase + 1 }
 }

@@ -1,0 +1,81 @@
+// An accepted sheet with the masks of its machines over one hyperperiod.
+ghost use Rattle.std.specs.Prelude.{◌≡◌, ◌≤◌, ◌<◌, length};
+ghost use Rattle.model.specs.Limits.{longest_hyperperiod};
+ghost use Rattle.sheet.specs.Meant.{meant};
+ghost use Rattle.walk.specs.Inside.{Marks};
+ghost use Rattle.level.specs.Masked.{MachineMasked, Masked, Idle, Lowest};
+
+use model::LONGEST_HYPERPERIOD;
+use sheet::{Machine, Sheet};
+
+// A mask for each tick of the longest hyperperiod.
+const HYPERPERIOD_MASKS: usize = LONGEST_HYPERPERIOD as usize;
+
+// Word t marks the tick t of a machine.
+type Masks = [u32; HYPERPERIOD_MASKS];
+
+// An accepted sheet with the masks of its machines, and at word t of `lowest` the lowest machine with an instant at t, or
+// the number of machines.
+#[derive(Drop)]
+pub struct MaskedSheet<'a> {
+    pub sheet: Sheet<'a>,
+    pub masks: [Masks; 8],
+    pub lowest: [u32; HYPERPERIOD_MASKS],
+    pub ghost masked: { Masked sheet.bytes.now masks },
+    pub ghost lowered: { Lowest sheet.hyperperiod masks lowest },
+}
+
+impl<'a> MaskedSheet<'a> {
+    // Marks the machines of a sheet.
+    pub fn new(sheet: Sheet<'a>) -> Self
+        ensures { result.sheet.bytes.now ≡ sheet.entry.bytes.now }
+    {
+        let masks = masks_of(&sheet);
+        let lowest = lowest_of(&masks, sheet.machines, sheet.hyperperiod as usize);
+        MaskedSheet { sheet, masks, lowest }
+    }
+}
+
+// The masks of a sheet's machines.
+fn masks_of(sheet: &Sheet<'_>) -> [Masks; 8]
+    ensures { Masked sheet.now.bytes.now result }
+{
+    let mut masks = [[0; HYPERPERIOD_MASKS]; 8];
+    for j in 0..sheet.machines {
+        masks[j] = machine_masks(&sheet.machine(j), sheet.hyperperiod as usize);
+    }
+    masks
+}
+
+// And of one machine, for the ticks below h.
+fn machine_masks(machine: &Machine<'_>, h: usize) -> Masks
+    requires { h ≤ longest_hyperperiod }
+    ensures { MachineMasked (meant machine.now) h result }
+{
+    let mut masks = [0; HYPERPERIOD_MASKS];
+    walk::mark_ticks(machine, 0, &mut masks[..h]);
+    masks
+}
+
+// The lowest machine with an instant at each tick below h.
+fn lowest_of(masks: &[Masks; 8], machines: usize, h: usize) -> [u32; HYPERPERIOD_MASKS]
+    requires { (machines ≤ 8) × (h ≤ longest_hyperperiod) }
+    ensures { Lowest h masks.now result }
+{
+    let mut lowest = [0; HYPERPERIOD_MASKS];
+    for t in 0..h {
+        lowest[t] = lowest_at(&masks[..machines], t) as u32;
+    }
+    lowest
+}
+
+// The lowest machine with an instant at t, or the number of machines.
+fn lowest_at(masks: &[Masks], t: usize) -> usize
+    requires { (length masks.now ≤ 8) × (t < longest_hyperperiod) }
+    ensures { (result ≤ length masks.now) × Idle masks.now t result }
+{
+    masks
+        .iter()
+        .position(|machine| machine[t] != 0)
+        .unwrap_or(masks.len())
+}
