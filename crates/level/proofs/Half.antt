@@ -177,7 +177,7 @@ module _ (sheet : MaskedSheet) {old at : Level} {above : ℕ}
     (ready : LevelStands sheet.sheet.bytes.now old × (old.ticks < longest_window))
     (walking : Walking sheet.sheet.bytes.now old old.machine at above) {own : Progress}
     (moved : Moved (machine_meant sheet.sheet old.machine) (mask_at sheet.masks old.machine old.phase)
-        (progress_of at.progress old.machine) own) where
+    (progress_of at.progress old.machine) own) where
   ended : {last : LastInstant}
       → Last (machine_meant sheet.sheet old.machine) old.start (old.ticks + 1) last
       → LevelMoved sheet.sheet.bytes.now old

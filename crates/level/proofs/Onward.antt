@@ -1,10 +1,9 @@
 -- A level before its first tick, after a tick, and what is due of its machine.
 use Prim.Native.Nat.{ℕ, zero, suc, ◌+◌, ◌-◌, ◌%◌, ◌≤◌, ◌<◌}
 use mathlib.Core.Path.{◌≡◌, refl, sym, ◌∙◌, ap}
-use mathlib.Core.List.{List}
 use native.Mathlib.Omega.{arith}
 use native.Mathlib.Nat.{mod-eq_of_lt, mod-add-mod, add-zero}
-use lib.ListN.{length, get_or, replicate, get_or-replicate}
+use lib.ListN.{get_or, replicate, get_or-replicate}
 use Rattle.model.specs.Limits.{longest_window}
 use Rattle.model.specs.Machine.{Machine, machine_of, hyperperiod}
 use Rattle.model.specs.Sizes.{MachineSizes}
@@ -14,14 +13,13 @@ use Rattle.model.proofs.Bounds.{request_empty}
 use Rattle.model.proofs.Added.{added_cong}
 use Rattle.sheet.specs.Format.{machine_count, decode}
 use Rattle.sheet.proofs.Entries.{few_machines, machine_sizes}
-use Rattle.walk.specs.declared.LastInstant.{LastInstant}
 use Rattle.walk.specs.Inside.{Marks, Ready, DueWithin}
 use Rattle.walk.proofs.Front.{row_zeros, last_begin, last_none, last_ready, last_demand}
 use Rattle.level.specs.declared.Progress.{Progress}
 use Rattle.level.specs.declared.Level.{Level}
 use Rattle.level.specs.declared.masked.MaskedSheet.{MaskedSheet}
 use Rattle.level.specs.Masked.{mask_at}
-use Rattle.level.specs.Inside.{ProgressAt, progress_of, FiguresAt, LevelAt, LevelStands, LevelMoved, LevelOnward}
+use Rattle.level.specs.Inside.{ProgressAt, progress_of, LevelAt, LevelStands, LevelMoved, LevelOnward}
 use Rattle.level.proofs.Phases.{phase_inside, phase_marks}
 use Rattle.level.proofs.Moving.{moved_not}
 

@@ -1,13 +1,13 @@
 -- A sheet's masks: what they are at a phase, and where no machine has an instant.
-use Prim.Native.Nat.{ℕ, ◌+◌, ◌%◌, ◌≤◌, ◌<◌}
+use Prim.Native.Nat.{ℕ, ◌%◌, ◌≤◌, ◌<◌}
 use mathlib.Core.Path.{◌≡◌}
 use mathlib.Core.List.{List, []}
 use native.Mathlib.Omega.{arith}
 use native.Mathlib.Nat.{mod-lt}
-use lib.ListN.{length, get_or, take, length-take}
+use lib.ListN.{length, take, length-take}
 use Rattle.std.proofs.Common.{get_or-take}
 use Rattle.model.specs.Limits.{longest_hyperperiod}
-use Rattle.model.specs.Machine.{Machine, machine_of, hyperperiod}
+use Rattle.model.specs.Machine.{machine_of, hyperperiod}
 use Rattle.model.proofs.Accepted.{sizes_repeat}
 use Rattle.sheet.specs.Format.{machine_count, decode}
 use Rattle.walk.specs.Inside.{Marks}

@@ -12,7 +12,6 @@ ghost use Rattle.sheet.specs.Meant.{machine_meant};
 ghost use Rattle.level.specs.Inside.{Standing, Moved, LevelAt, LevelStands, LevelMoved, LevelOnward};
 
 pub use masked::MaskedSheet;
-
 use model::Way;
 use sheet::Sheet;
 use walk::{LastInstant, Row};

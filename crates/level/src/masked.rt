@@ -32,7 +32,11 @@ impl<'a> MaskedSheet<'a> {
     {
         let masks = masks_of(&sheet);
         let lowest = lowest_of(&masks, sheet.machines, sheet.hyperperiod as usize);
-        MaskedSheet { sheet, masks, lowest }
+        MaskedSheet {
+            sheet,
+            masks,
+            lowest,
+        }
     }
 }
 

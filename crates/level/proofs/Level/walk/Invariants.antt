@@ -1,4 +1,3 @@
-use Rattle.std.proofs.Common.{◌≤◌}
 use Rattle.level.proofs.Half.{Walking}
 use Rattle.level.proofs.Level.walk.Given as goal
 
