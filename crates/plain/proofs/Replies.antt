@@ -1,13 +1,11 @@
--- The reply of `plain`: what it is where the call is refused and where the window is taken, that it agrees with the
--- table method on each window that it takes, and that no second result satisfies the contract.
-use Prim.Native.Nat.{ℕ, ◌+◌, ◌-◌, ◌≤◌, ◌<◌}
-use mathlib.Core.Path.{◌≡◌, refl, sym, ◌∙◌, ap}
+-- The plain reckoner agrees with the table method on each window that it takes, and no second result satisfies its
+-- contract.
+use Prim.Native.Nat.{ℕ, ◌+◌, ◌-◌, ◌≤◌}
+use mathlib.Core.Path.{◌≡◌, refl}
 use mathlib.Core.List.{List, [], ◌∷◌}
-use Rattle.std.specs.Prelude.{Option, None, Some}
-use native.Mathlib.Omega.{arith}
-use lib.Dec.{leb}
+use Rattle.std.specs.Prelude.{Option, None, Some, Result}
 use lib.ListN.{get_or}
-use borrow.Author.Tests.{le-leb, lt-leb}
+use borrow.Author.Tests.{le-leb}
 use Rattle.model.specs.Machine.{Machine, machine_of}
 use Rattle.model.specs.Legal.{IsRequestBound, requested}
 use Rattle.model.specs.Reckon.{most, request}
@@ -16,62 +14,21 @@ use Rattle.model.proofs.Largest.{largest_unique}
 use Rattle.model.proofs.Bounds.{request_is}
 use Rattle.model.proofs.Row.{row_request}
 use Rattle.reply.specs.declared.Refusal.{Refusal}
-use Rattle.reply.specs.declared.Answer.{Answer}
-use Rattle.reply.specs.declared.Answer.TheVariants.{Value, Refused}
-use Rattle.reply.specs.Reply.{answer, refusal, unless, ◌or_else◌, ◌otherwise◌}
-use Rattle.reply.specs.Answer.{paper, Figure}
-use Rattle.reply.proofs.Refusals.{or_else_refused, or_else_clear, otherwise_refused, otherwise_answered}
+use Rattle.reply.specs.declared.Reason.{Reason}
+use Rattle.reply.specs.Reply.{answer, ◌or_else◌, ◌otherwise◌}
+use Rattle.reply.specs.Answer.{paper}
 use Rattle.reply.proofs.Unique.{answer_unique}
-use Rattle.sheet.specs.declared.Entry.{Entry}
 use Rattle.sheet.specs.Format.{decode}
-use Rattle.sheet.specs.Inside.{machine_at}
 use Rattle.window.specs.Window.{question_refusal}
-use Rattle.window.proofs.Replies.{proper}
-use Rattle.plain.specs.Plain.{instants, rule14, plain_refusal, plain_reply}
+use Rattle.plain.specs.Plain.{instants, plain_refusal, plain_reply}
 
-module _ (b : List ℕ) (i s f : ℕ) where
-  refusal_question : {r : Refusal} → question_refusal b i s f ≡ Some r → plain_refusal b i s f ≡ Some r
-  unfolding plain_refusal
-  refusal_question e = or_else_refused _ e
-
-  refusal_by : question_refusal b i s f ≡ None → plain_refusal b i s f ≡ rule14 (machine_of (decode b) i) s f
-  unfolding plain_refusal
-  refusal_by kept = or_else_clear _ kept
-
--- what the contract says: the reply, and that a figure is the request bound
-abbrev Meets : List ℕ → ℕ → ℕ → ℕ → Answer → Type 0
-Meets b i s f r = (paper r ≡ plain_reply b i s f) × Figure (IsRequestBound (machine_of (decode b) i) s f) r
-
-module _ (b : List ℕ) (i s f : ℕ) where
-  pub plain_refused : {r : Refusal} → question_refusal b i s f ≡ Some r → Meets b i s f (Refused r)
-  plain_refused e = (otherwise_refused _ (refusal_question b i s f e), tt)
-
-  -- by the number of instants of the machine that an entry is of
-  module _ (kept : question_refusal b i s f ≡ None) (e : Entry) (of : e.machine ≡ i) {n : ℕ}
-      (counted : n ≡ instants (machine_at b e) s (f - s)) where
-    tested : rule14 (machine_of (decode b) i) s f ≡ unless (leb n 6) (refusal 14 0 0)
-    tested = rw (sym of, sym counted) refl
-
-    pub plain_many : 6 < n → Meets b i s f (Refused (refusal 14 0 0))
-    plain_many l =
-        let broken = refusal_by b i s f kept ∙ tested ∙ ap (λ t. unless t (refusal 14 0 0)) (lt-leb n 6 l) in
-        (otherwise_refused _ broken, tt)
-
-    -- each window with at most 6 instants is taken
-    pub plain_taken : {v : ℕ} → n ≤ 6 → v ≡ request (machine_at b e) s (f - s) → Meets b i s f (Value v)
-    plain_taken l g =
-        let clear = refusal_by b i s f kept ∙ tested ∙ ap (λ t. unless t (refusal 14 0 0)) (le-leb n 6 l) in
-        let window : s + (f - s) ≡ f = omega (arith, (proper b i s f kept).window.forward) in
-        rw (g, of) (otherwise_answered _ clear, request_is (machine_of (decode b) i) s (f - s) f window)
-
--- on each window that it takes it agrees with the table method: with `request`, with a row of figures, and with a word
--- of the request table
 or_else_nothing : (x : Option Refusal) → x or_else None ≡ x
 or_else_nothing None = refl
 or_else_nothing (Some r) = refl
 
-pub plain_agrees_request : (b : List ℕ) (i s f : ℕ) (r q : Answer) → instants (machine_of (decode b) i) s (f - s) ≤ 6
-    → paper r ≡ plain_reply b i s f
+-- it agrees with `request`, with a row of figures, and with a word of the request table
+pub plain_agrees_request : (b : List ℕ) (i s f : ℕ) (r q : Result ℕ Reason)
+    → instants (machine_of (decode b) i) s (f - s) ≤ 6 → paper r ≡ plain_reply b i s f
     → paper q ≡ (question_refusal b i s f otherwise answer 0 (request (machine_of (decode b) i) s (f - s) ∷ [])) → r ≡ q
 unfolding plain_refusal
 plain_agrees_request b i s f r q l e g =
@@ -90,6 +47,6 @@ module _ (m : Machine) {s f v : ℕ} (bound : IsRequestBound m s f v) where
   plain_agrees_table {k = k} words e l h = largest_unique bound (rw e at (h k l))
 
 -- no second result
-pub plain_unique : (b : List ℕ) (i s f : ℕ) (r q : Answer) → paper r ≡ plain_reply b i s f
+pub plain_unique : (b : List ℕ) (i s f : ℕ) (r q : Result ℕ Reason) → paper r ≡ plain_reply b i s f
     → paper q ≡ plain_reply b i s f → r ≡ q
 plain_unique b i s f = answer_unique

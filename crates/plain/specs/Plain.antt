@@ -1,9 +1,8 @@
 -- Document 01, "A plain reckoner of one request bound", and reply 14.
-use Rattle.std.specs.Prelude.{ℕ, zero, suc, ◌+◌, ◌-◌, Bool, cond, List, [], ◌∷◌, leb}
-use Rattle.std.specs.Prelude.{Option}
+use Rattle.std.specs.Prelude.{ℕ, ◌-◌, Bool, List, [], ◌∷◌, leb, Option, count_by}
+use Rattle.std.specs.List.{list_any, range_with_len}
 use Rattle.model.specs.Machine.{Machine, count, machine_of}
 use Rattle.model.specs.Reckon.{is_instant, request}
-use Rattle.model.specs.Search.{smallest_below, is_found}
 use Rattle.reply.specs.declared.Refusal.{Refusal}
 use Rattle.reply.specs.Reply.{Reply, answer, refusal, unless, ◌or_else◌, ◌otherwise◌}
 use Rattle.sheet.specs.Format.{decode}
@@ -11,12 +10,11 @@ use Rattle.window.specs.Window.{question_refusal}
 
 -- t is an instant of the machine: some action has one there
 unfoldable pub has_instant : Machine → ℕ → Bool
-has_instant m t = is_found (smallest_below (count m) (λ k. is_instant m k t))
+has_instant m t = list_any (λ k. is_instant m k t) (range_with_len 0 (count m))
 
 -- how many instants of the machine [s, s + n) holds, an instant counted once
 unfoldable pub instants : Machine → ℕ → ℕ → ℕ
-instants m s zero = 0
-instants m s (suc n) = cond (has_instant m s) 1 0 + instants m (suc s) n
+instants m s n = count_by (has_instant m) (range_with_len s n)
 
 -- 14: plain reckoner, more than 6 instants
 abbrev pub rule14 : Machine → ℕ → ℕ → Option Refusal

@@ -6,27 +6,24 @@
 mod instant;
 mod reckon;
 
-ghost use Rattle.std.specs.Prelude.{◌≡◌};
+ghost use Rattle.std.specs.Prelude.{◌≡◌, IfOk};
 ghost use Rattle.model.specs.Machine.{machine_of};
 ghost use Rattle.model.specs.Legal.{IsRequestBound};
-ghost use Rattle.reply.specs.Answer.{paper, Figure};
+ghost use Rattle.reply.specs.Answer.{paper};
 ghost use Rattle.sheet.specs.Format.{decode};
 ghost use Rattle.plain.specs.Plain.{plain_reply};
 
-use reply::{Answer, Rule};
+use reply::Reason;
 
 // The request bound of [from, to) of a machine; 14 where the window holds more than 6 instants.
-pub fn plain(sheet: &[u8], machine: u32, from: u32, to: u32) -> Answer
+#[tactic(auto, unfolding(crate::specs::Plain::plain_refusal))]
+pub fn plain(sheet: &[u8], machine: u32, from: u32, to: u32) -> Result<u32, Reason>
     ensures says { paper result ≡ plain_reply sheet.now machine from to }
-    ensures promises { Figure (IsRequestBound (machine_of (decode sheet.now) machine) from to) result }
+    ensures promises { IfOk result (IsRequestBound (machine_of (decode sheet.now) machine) from to) }
 {
-    let rule = window::question_rule(sheet, machine, from as u64, to as u64);
-    if let Rule::Broken(refusal) = rule {
-        return Answer::Refused(refusal);
+    let window = window::window_of(sheet, machine, from, u64::from(to))?;
+    if 6 < instant::instants_in(&window) {
+        return Err(Reason::ManyInstants);
     }
-    let entry = sheet::entry_of(sheet, machine as usize);
-    if 6 < instant::instants_in(sheet, entry, from, to) {
-        return Answer::Refused(reply::placeless(14));
-    }
-    Answer::Value(reckon::machine_asks(sheet, entry, from, to))
+    Ok(reckon::machine_asks(&window))
 }

@@ -1,61 +1,55 @@
-// The reckoning: a state asks each of its actions, an action asks its sink state. The window falls
-// from an action to its sink, and the number of actions left to ask from one action to the next.
-ghost use Rattle.std.specs.Prelude.{◌≡◌, ◌-◌, ◌≤◌, ◌<◌};
+// The reckoning: a state asks each of its actions, an action asks its sink state. The window falls from an action to
+// its sink.
+ghost use Rattle.std.specs.Prelude.{◌≡◌, ◌-◌, ◌<◌, eqb};
 ghost use Rattle.model.specs.Machine.{count};
-ghost use Rattle.model.specs.Reckon.{request};
-ghost use Rattle.model.specs.Inside.{InRange};
-ghost use Rattle.sheet.specs.Inside.{machine_at, IsEntry};
-ghost use Rattle.plain.specs.Inside.{ActionAsks, StateAsks};
+ghost use Rattle.model.specs.Legal.{requested};
+ghost use Rattle.model.specs.Reckon.{best, request};
+ghost use Rattle.model.specs.Inside.{InRange, at_first};
+ghost use Rattle.sheet.specs.Meant.{meant};
 
 use crate::instant;
-use sheet::{Entry, fields};
+use sheet::Machine;
+use window::MachineWindow;
 
-// The request bound of [from, to): a first pair may have any source state.
-pub(crate) fn machine_asks(sheet: &[u8], entry: Entry, from: u32, to: u32) -> u32
-    requires { IsEntry sheet.now entry × InRange from to }
-    ensures { result ≡ request (machine_at sheet.now entry) from (to - from) }
+// The request bound of a window: a first pair may have any source state.
+#[tactic(auto, unfolding(model::specs::Reckon::most))]
+pub(crate) fn machine_asks(window: &MachineWindow<'_>) -> u32
+    ensures { result ≡ request (meant window.now.machine) window.now.from window.now.length }
 {
-    let mut best = 0;
-    let mut state = 0;
-    while state < entry.states {
-        let asked = state_asks(sheet, entry, state, entry.actions, from, to);
-        if best < asked {
-            best = asked;
-        }
-        state += 1;
+    let machine = &window.machine;
+    let to = window.from + window.length;
+    let mut most = 0;
+    for state in 0..machine.states() {
+        most = most.max(state_asks(machine, state, window.from, to));
     }
-    best
+    most
 }
 
-// The most that those of the first `left` actions that leave `state` ask in [t, to).
+// The most that the actions of a state ask in [t, to).
+#[tactic(auto, unfolding(model::specs::Reckon::most))]
 #[cycle(action_asks_state_asks)]
-fn state_asks(sheet: &[u8], entry: Entry, state: usize, left: usize, t: u32, to: u32) -> u32
-    requires { IsEntry sheet.now entry × InRange t to × (left ≤ count (machine_at sheet.now entry)) }
-    ensures { StateAsks (machine_at sheet.now entry) state left t to result }
+fn state_asks(machine: &Machine<'_>, state: usize, t: u32, to: u32) -> u32
+    requires { InRange t to }
+    ensures { result ≡ best (meant machine.now) (requested (meant machine.now)) t (to - t) (eqb state) }
 {
-    if left == 0 {
-        return 0;
+    let mut most = 0;
+    for k in 0..machine.actions() {
+        if machine.action(k).source == state {
+            most = most.max(action_asks(machine, k, t, to));
+        }
     }
-    let k = left - 1;
-    let others = state_asks(sheet, entry, state, k, t, to);
-    if fields::source(sheet, entry, k) != state {
-        return others;
-    }
-    let asked = action_asks(sheet, entry, k, t, to);
-    if others < asked { asked } else { others }
+    most
 }
 
 // What action k asks in [t, to): at its first instant its cost, and the most that its sink then asks.
 #[cycle(action_asks_state_asks)]
-fn action_asks(sheet: &[u8], entry: Entry, k: usize, t: u32, to: u32) -> u32
-    requires { IsEntry sheet.now entry × InRange t to × (k < count (machine_at sheet.now entry)) }
-    ensures { ActionAsks (machine_at sheet.now entry) k t to result }
+fn action_asks(machine: &Machine<'_>, k: usize, t: u32, to: u32) -> u32
+    requires { InRange t to × (k < count (meant machine.now)) }
+    ensures { result ≡ at_first (meant machine.now) (requested (meant machine.now)) t (to - t) k }
 {
-    let instant = instant::first_instant(sheet, entry, k, t, to);
-    if instant == to {
+    let Some(instant) = instant::first_instant(machine, k, t, to) else {
         return 0;
-    }
-    let sink = fields::sink(sheet, entry, k);
-    let after = state_asks(sheet, entry, sink, entry.actions, instant + 1, to);
-    sheet::cost(sheet, entry, k) + after
+    };
+    let sink = machine.action(k).sink;
+    machine.cost(k) + state_asks(machine, sink, instant + 1, to)
 }

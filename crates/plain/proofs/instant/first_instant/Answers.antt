@@ -1,12 +1,17 @@
-use Rattle.std.proofs.Common.{sym, ◌∙◌}
-use Rattle.plain.proofs.Instants.{passed_more, passed_first}
+use Rattle.std.proofs.Common.{◌≡◌, true, false, sym, ◌∙◌, rules}
+use Rattle.std.proofs.lemmas.Bool.{false≢true}
+use Rattle.std.proofs.lemmas.Iterator.{first_from_Range}
+use Rattle.model.specs.Legal.{Instant}
+use Rattle.model.specs.Reckon.{is_instant}
+use Rattle.model.proofs.Names.{is_instant_law}
+use Rattle.sheet.specs.Meant.{meant}
 use Rattle.plain.proofs.instant.first_instant.Goals as goal
 
-pub returns-then-has_instant : goal.returns-then-has_instant
-returns-then-has_instant c =
-    let found = sym c.has_instant.ensures ∙ c.if-has_instant.true in
-    passed_first c.loop-u.invariant (λ l. found)
-
-pub loop-u-preserved : goal.loop-u-preserved
-loop-u-preserved c =
-    passed_more c.loop-u.invariant c.loop-u-test.true (sym c.has_instant.ensures ∙ c.if-has_instant.false)
+pub returns : goal.returns
+returns c =
+    let m = meant c.args.machine.now in
+    let k = c.args.k in
+    first_from_Range _ _ _ _ (Instant m k) (λ u. Instant m k u → ⊥) c.find.ensures.ran
+    (λ x q h. let e : is_instant m k x ≡ true = search rules in (is_instant_law m k x).0 e)
+    (λ x q h. let e : is_instant m k x ≡ false = search rules in
+    (search rules, λ i. false≢true (sym e ∙ (is_instant_law m k x).1 i)))

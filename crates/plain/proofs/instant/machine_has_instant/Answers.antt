@@ -1,17 +1,15 @@
-use Rattle.std.proofs.Common.{sym, ◌∙◌, arith}
-use Rattle.std.specs.Prelude.{None, Some}
-use Rattle.plain.proofs.Instants.{has_instant_by}
+use Rattle.std.proofs.Common.{arith, rules}
+use Rattle.std.proofs.lemmas.Iterator.{YieldsList-from_range}
+use Rattle.std.proofs.lemmas.Iterator.Search.{any_from_yields_List}
+use Rattle.model.specs.Machine.{count}
+use Rattle.model.specs.Reckon.{is_instant}
+use Rattle.sheet.specs.Meant.{meant}
+use Rattle.plain.specs.Plain.{has_instant}
 use Rattle.plain.proofs.instant.machine_has_instant.Goals as goal
 
-pub returns-then-has_instant : goal.returns-then-has_instant
-returns-then-has_instant c =
-    sym (has_instant_by _ _ (Some c.loop-k.k) (
-      omega (arith, c.requires.has.actions, c.loop-k-test.true),
-      sym c.has_instant.ensures ∙ c.if-has_instant.true,
-      c.loop-k.invariant,
-    ))
-
 pub returns : goal.returns
+unfolding has_instant
 returns c =
-    let all = c.requires.has.actions in
-    sym (has_instant_by _ _ None (λ j l. c.loop-k.invariant j (omega (arith, all, c.loop-k-test.false))))
+    let m = meant c.args.machine.now in
+    any_from_yields_List (λ k. is_instant m k c.args.t) _ _ _ c.any.ensures.ran
+    (YieldsList-from_range 0 c.actions.result (count m) (cc) (omega arith)) (λ x b q k. search rules)

@@ -1,10 +1,10 @@
-use Rattle.std.proofs.Common.{◌-◌}
-use Rattle.sheet.specs.Inside.{machine_at}
-use Rattle.plain.proofs.Reckoning.{StatesAsked}
+use Rattle.std.proofs.Common.{◌≡◌, ◌-◌, eqb}
+use Rattle.model.specs.Legal.{requested}
+use Rattle.model.specs.Reckon.{most, best}
+use Rattle.sheet.specs.Meant.{meant}
 use Rattle.plain.proofs.reckon.machine_asks.Given as goal
 
 abbrev pub invariant-loop-state : goal.invariant-loop-state
-invariant-loop-state l = StatesAsked (machine_at l.sheet l.entry) l.from l.to l.state l.best
-
-abbrev pub decreases-loop-state : goal.decreases-loop-state
-decreases-loop-state l = l.entry.states - l.state
+invariant-loop-state l =
+    let m = meant l.machine in
+    l.most ≡ most l.state (λ q. best m (requested m) l.window.from (l.to - l.window.from) (eqb q))
