@@ -1,67 +1,39 @@
 -- A table in the middle of being filled.
-use Prim.Native.Nat.{ℕ, zero, suc, ◌+◌, ◌<◌}
-use mathlib.Core.Path.{◌≡◌, refl, sym, ◌∙◌}
-use mathlib.Core.List.{List, [], ◌∷◌, ◌++◌, append_assoc}
-use mathlib.Core.Logic.{⊎_elim}
+use Prim.Native.Nat.{ℕ, ◌+◌, ◌≤◌, ◌<◌}
+use mathlib.Core.Path.{◌≡◌, refl, sym, ◌∙◌, ap, ap₂}
+use mathlib.Core.List.{List, map, ◌++◌}
 use native.Mathlib.Omega.{arith}
-use native.Mathlib.Numerals.{add-one}
-use native.Mathlib.Nat.{eq-or-lt_of_le, le_of_suc-le-suc}
-use lib.ListN.{length, get_or, set, drop, length-append, length-set, get_or-append}
-use lib.Seq.{drop-cons, set_at, get_or_at}
-use Rattle.model.specs.Machine.{Machine}
-use Rattle.model.specs.Legal.{requested}
-use Rattle.model.specs.Reckon.{request}
-use Rattle.model.specs.Inside.{IsRow}
+use lib.ListN.{length, get_or, set, drop, take}
+use Rattle.std.specs.List.{range_with_len}
+use Rattle.std.proofs.Common.{length-take-le}
+use Rattle.std.proofs.lemmas.Grind.{drop_more_same}
+use Rattle.std.proofs.lemmas.List.{take-append-drop, get_or-take, drop-set-lt}
+use Rattle.std.proofs.lemmas.List.Edits.{fill_by_more}
+use Rattle.std.proofs.lemmas.List.FromFn.{fill_by_all, length-map-range_with_len}
 use Rattle.reply.specs.Lent.{in_front}
-use Rattle.bounds.specs.Table.{listed, request_table}
 
-module _ (f : ℕ → ℕ) where
-  pub listed_length : (n : ℕ) → length (listed f n) ≡ n
-  unfolding listed
-  listed_length zero = refl
-  listed_length (suc n) = length-append (listed f n) (f n ∷ []) ∙ omega (arith, listed_length n)
+-- the first n words are written, and those beyond are as they were
+pub record Filling (f : ℕ → ℕ) (n : ℕ) (old words : List ℕ) : Type 0 where
+  pub written : (k : ℕ) → k < n → get_or words k 0 ≡ f k
+  pub beyond : drop n words ≡ drop n old
 
-  listed_at : (n k : ℕ) → k < n → get_or (listed f n) k 0 ≡ f k
-  unfolding listed
-  listed_at zero k l = absurd (omega arith)
-  listed_at (suc n) k l =
-      ⊎_elim (λ e. rw e (get_or_at (listed f n) (f n) [] 0 n (listed_length n)))
-      (λ b. get_or-append (listed f n) (f n ∷ []) 0 k (omega (arith, listed_length n)) ∙ listed_at n k b)
-      (eq-or-lt_of_le (le_of_suc-le-suc l))
+pub filling_begin : (f : ℕ → ℕ) (words : List ℕ) → Filling f 0 words words
+filling_begin f words = record { written = λ k l. absurd (omega arith); beyond = refl }
 
-  pub listed_first : (n : ℕ) (rest : List ℕ) (k : ℕ) → k < n → get_or (listed f n ++ rest) k 0 ≡ f k
-  listed_first n rest k l =
-      get_or-append (listed f n) rest 0 k (omega (arith, listed_length n)) ∙ listed_at n k l
+module _ {f : ℕ → ℕ} {old words : List ℕ} where
+  pub filling_more : {n v : ℕ} → Filling f n old words → n < length words → v ≡ f n
+      → Filling f (n + 1) old (set words n v)
+  filling_more {n} h l e =
+      rw e
+      (record {
+        written = fill_by_more f words n 0 l h.written;
+        beyond = drop-set-lt (n + 1) words n (f n) (omega arith) ∙ drop_more_same words old n h.beyond;
+      })
 
-  -- one more word of a list that is written over from the front
-  listed_more : (n : ℕ) (words : List ℕ) → n < length words
-      → set (listed f n ++ drop n words) n (f n) ≡ listed f (n + 1) ++ drop (n + 1) words
-  unfolding listed
-  listed_more n words l =
-      rw (add-one, drop-cons words n 0 l)
-      (set_at (listed f n) (get_or words n 0) (drop (suc n) words) (f n) n (listed_length n)
-      ∙ sym (append_assoc (listed f n) (f n ∷ []) (drop (suc n) words)))
-
--- the first n words are written, and `row` has the figures after n ticks
-pub record Filling (m : Machine) (s n : ℕ) (old words row : List ℕ) : Type 0 where
-  pub figures : IsRow m (requested m) s n row
-  pub long : length words ≡ length old
-  pub written : words ≡ listed (request m s) n ++ drop n old
-
-module _ {m : Machine} {s : ℕ} {old row : List ℕ} where
-  pub filling_begin : IsRow m (requested m) s 0 row → Filling m s 0 old old row
-  unfolding listed
-  filling_begin h = record { figures = h; long = refl; written = refl }
-
-  pub filling_more : {n v : ℕ} {words next : List ℕ} → Filling m s n old words row → n < length old
-      → v ≡ request m s n → IsRow m (requested m) s (n + 1) next → Filling m s (n + 1) old (set words n v) next
-  filling_more {n} {v} {words} h l e figures =
-      record {
-        figures = figures;
-        long = length-set words n v ∙ h.long;
-        written = rw (e, h.written) (listed_more (request m s) n old l);
-      }
-
-  pub filling_end : {n : ℕ} (k : ℕ) {words : List ℕ} → Filling m s n old words row → n ≡ k + 1
-      → words ≡ in_front (request_table m s k) old
-  filling_end k h e = rw (listed_length (request m s) (k + 1)) (rw e at h.written)
+  pub filling_end : {n : ℕ} → Filling f n old words → n ≤ length words
+      → words ≡ in_front (map f (range_with_len 0 n)) old
+  filling_end {n} h l =
+      sym (take-append-drop n words)
+      ∙ ap₂ ◌++◌
+      (fill_by_all f (take n words) n 0 (length-take-le n words l) (λ k b. get_or-take n words k 0 b ∙ h.written k b))
+      (h.beyond ∙ ap (λ k. drop k old) (sym (length-map-range_with_len f 0 n)))

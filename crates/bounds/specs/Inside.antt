@@ -9,4 +9,4 @@ use Rattle.bounds.specs.declared.Front.{Front}
 -- how far a walk over the ticks of [s, s + n) has come at its end
 pub record IsFront (m : Machine) (s n : ℕ) (f : Front) : Type 0 where
   pub row : IsRow m (requested m) s n f.row
-  pub last : Last m s n f.last f.mask f.before
+  pub last : Last m s n f.last

@@ -2,141 +2,124 @@
 // Definitions: specs/Bounds.antt and specs/Table.antt.
 #![tactic(auto)]
 
-ghost use Rattle.std.specs.Prelude.{◌≡◌, ◌+◌, ◌<◌, length as list_length};
+ghost use Rattle.std.specs.Prelude.{◌≡◌, ◌<◌, length as list_length, IfOk, OnOk};
 ghost use Rattle.model.specs.Machine.{machine_of};
 ghost use Rattle.model.specs.Legal.{IsRequestBound, IsDemandBound};
 ghost use Rattle.model.specs.Reckon.{request as reckoned_request, demand as reckoned_demand};
-ghost use Rattle.model.specs.Inside.{InRange};
-ghost use Rattle.reply.specs.Answer.{paper, Figure};
+ghost use Rattle.reply.specs.Answer.{paper};
 ghost use Rattle.reply.specs.Tabled.{paper as table_paper};
+ghost use Rattle.reply.specs.Lent.{in_front};
 ghost use Rattle.sheet.specs.Format.{decode};
-ghost use Rattle.sheet.specs.Inside.{machine_at, IsEntry};
-ghost use Rattle.window.specs.Inside.{Proper};
+ghost use Rattle.sheet.specs.Meant.{meant};
 ghost use Rattle.bounds.specs.Bounds.{request_reply, demand_reply};
-ghost use Rattle.bounds.specs.Table.{table_reply, with_table, table_words, HoldsBounds};
+ghost use Rattle.bounds.specs.Table.{request_table, table_reply, table_words, HoldsBounds};
 ghost use Rattle.bounds.specs.Inside.{IsFront};
 
 use model::Way;
-use reply::{Answer, Rule, Tabled};
-use sheet::Entry;
+use reply::Reason;
+use walk::{LastInstant, Row};
+use window::MachineWindow;
 
 // The request bound of [from, to) of a machine.
-pub fn request(sheet: &[u8], machine: u32, from: u32, to: u32) -> Answer
+pub fn request(sheet: &[u8], machine: u32, from: u32, to: u32) -> Result<u32, Reason>
     ensures says { paper result ≡ request_reply sheet.now machine from to }
-    ensures promises { Figure (IsRequestBound (machine_of (decode sheet.now) machine) from to) result }
+    ensures promises { IfOk result (IsRequestBound (machine_of (decode sheet.now) machine) from to) }
 {
-    let rule = window::question_rule(sheet, machine, from as u64, to as u64);
-    if let Rule::Broken(refusal) = rule {
-        return Answer::Refused(refusal);
-    }
-    Answer::Value(request_of(sheet, machine as usize, from, to - from))
+    let window = window::window_of(sheet, machine, from, u64::from(to))?;
+    Ok(request_of(&window))
 }
 
 // The demand bound of [from, to] of a machine.
-pub fn demand(sheet: &[u8], machine: u32, from: u32, to: u32) -> Answer
+pub fn demand(sheet: &[u8], machine: u32, from: u32, to: u32) -> Result<u32, Reason>
     ensures says { paper result ≡ demand_reply sheet.now machine from to }
-    ensures promises { Figure (IsDemandBound (machine_of (decode sheet.now) machine) from to) result }
+    ensures promises { IfOk result (IsDemandBound (machine_of (decode sheet.now) machine) from to) }
 {
-    let rule = window::question_rule(sheet, machine, from as u64, to as u64);
-    if let Rule::Broken(refusal) = rule {
-        return Answer::Refused(refusal);
-    }
-    Answer::Value(demand_of(sheet, machine as usize, from, to - from))
+    let window = window::window_of(sheet, machine, from, u64::from(to))?;
+    Ok(demand_of(&window))
 }
 
 // Writes the request bounds of [from, from + n) for n from 0 to `length`, a word each. Words beyond
 // stay as they were; a refused call writes nothing.
-pub fn table(sheet: &[u8], machine: u32, from: u32, length: u32, words: &mut [u32]) -> Tabled
+#[tactic(auto, unfolding(crate::specs::Table::table_refusal))]
+pub fn table(
+    sheet: &[u8],
+    machine: u32,
+    from: u32,
+    length: u32,
+    words: &mut [u32],
+) -> Result<(), Reason>
     ensures says { table_paper result ≡ table_reply sheet.now machine from length words.old }
     ensures writes { words.new ≡ table_words sheet.now machine from length words.old }
-    ensures promises { HoldsBounds (machine_of (decode sheet.now) machine) from length words.new result }
+    ensures promises { OnOk result (HoldsBounds (machine_of (decode sheet.now) machine) from length words.new) }
 {
-    let rule = window::question_rule(sheet, machine, from as u64, from as u64 + length as u64);
-    if let Rule::Broken(refusal) = rule {
-        return Tabled::Refused(refusal);
-    }
+    let window = window::window_of(sheet, machine, from, u64::from(from) + u64::from(length))?;
     if words.len() <= length as usize {
-        return Tabled::Refused(reply::placeless(12));
+        return Err(Reason::ShortOutput);
     }
-    fill(sheet, machine as usize, from, length, words);
-    Tabled::Filled
+    fill(&window, words);
+    Ok(())
 }
 
-// The request bound of [from, from + length), of a sheet that is known to be accepted.
-pub fn request_of(sheet: &[u8], machine: usize, from: u32, length: u32) -> u32
-    requires { Proper sheet.now machine from (from + length) }
-    ensures { result ≡ reckoned_request (machine_of (decode sheet.now) machine) from length }
+// The request bound of a window.
+pub fn request_of(window: &MachineWindow<'_>) -> u32
+    ensures { result ≡ reckoned_request (meant window.now.machine) window.now.from window.now.length }
 {
-    let entry = sheet::entry_of(sheet, machine);
-    let front = walk_to(sheet, entry, from, length);
-    let row = front.row;
-    walk::top(&row, entry.states)
+    walk::top(&walk_to(window).row, window.machine.states())
 }
 
-// The demand bound of [from, from + length], of a sheet that is known to be accepted.
-pub fn demand_of(sheet: &[u8], machine: usize, from: u32, length: u32) -> u32
-    requires { Proper sheet.now machine from (from + length) }
-    ensures { result ≡ reckoned_demand (machine_of (decode sheet.now) machine) from length }
+// The demand bound of a window, its end included.
+pub fn demand_of(window: &MachineWindow<'_>) -> u32
+    ensures { result ≡ reckoned_demand (meant window.now.machine) window.now.from window.now.length }
 {
-    let entry = sheet::entry_of(sheet, machine);
-    let front = walk_to(sheet, entry, from, length);
-    let before = front.before;
-    walk::due_within(sheet, entry, front.mask, before, length - front.last)
+    let last = walk_to(window).last;
+    walk::due_within(&window.machine, &last, window.length - last.ticks)
 }
 
-// How far a walk has come: the row, and the number of ticks up to the machine's last instant, its
-// mask and the row before it.
+// How far a walk has come: the row, and the machine's last instant.
 #[derive(Clone, Copy)]
 struct Front {
-    row: [u32; 16],
-    last: u32,
-    mask: u32,
-    before: [u32; 16],
+    row: Row,
+    last: LastInstant,
 }
 
-// Walks over the ticks of [from, from + length).
-fn walk_to(sheet: &[u8], entry: Entry, from: u32, length: u32) -> Front
-    requires { IsEntry sheet.now entry × InRange from (from + length) }
-    ensures { IsFront (machine_at sheet.now entry) from length result }
+// Walks over the ticks of a window.
+fn walk_to(window: &MachineWindow<'_>) -> Front
+    ensures { IsFront (meant window.now.machine) window.now.from window.now.length result }
 {
-    let masks = walk::window_masks(sheet, entry, from, length as usize);
-    let mut row = [0u32; 16];
-    let mut last = 0;
-    let mut mask = masks[0];
-    let mut before = row;
-    let mut n = 0;
-    while n < length {
-        let now = masks[n as usize];
-        if now != 0 {
-            last = n;
-            mask = now;
-            before = row;
-            let next = walk::tick(sheet, entry, now, Way::On, row);
-            row = next;
-        }
-        n += 1;
-    }
-    Front {
+    let machine = &window.machine;
+    let masks = walk::window_masks(machine, window.from, window.length as usize);
+    let mut row = [0; 16];
+    let mut last = LastInstant {
+        ticks: 0,
+        mask: masks[0],
         row,
-        last,
-        mask,
-        before,
+    };
+    for n in 0..window.length {
+        let mask = masks[n as usize];
+        if mask != 0 {
+            last = LastInstant {
+                ticks: n,
+                mask,
+                row,
+            };
+            row = walk::tick(machine, mask, Way::On, &row);
+        }
     }
+    Front { row, last }
 }
 
-// Writes the request bounds of [from, from + n) for n from 0 to `length`.
-fn fill(sheet: &[u8], machine: usize, from: u32, length: u32, words: &mut [u32])
-    requires { Proper sheet.now machine from (from + length) × (length < list_length words.old) }
-    ensures { words.new ≡ with_table sheet.now machine from length words.old }
+// Writes the request bounds of the first n ticks of a window, for n from 0 to its length.
+fn fill(window: &MachineWindow<'_>, words: &mut [u32])
+    requires { window.now.length < list_length words.old }
+    ensures { words.new
+        ≡ in_front (request_table (meant window.now.machine) window.now.from window.now.length) words.old }
 {
-    let entry = sheet::entry_of(sheet, machine);
-    let masks = walk::window_masks(sheet, entry, from, length as usize);
-    let mut row = [0u32; 16];
-    let mut n = 0;
-    while n <= length {
-        words[n as usize] = walk::top(&row, entry.states);
-        let next = walk::tick(sheet, entry, masks[n as usize], Way::On, row);
-        row = next;
-        n += 1;
+    let machine = &window.machine;
+    let length = window.length as usize;
+    let masks = walk::window_masks(machine, window.from, length);
+    let mut row = [0; 16];
+    for n in 0..length + 1 {
+        words[n] = walk::top(&row, machine.states());
+        row = walk::tick(machine, masks[n], Way::On, &row);
     }
 }

@@ -1,19 +1,7 @@
-use Rattle.std.proofs.Common.{arith, ◌∙◌, ap, sym}
-use Rattle.reply.specs.Inside.{paper}
-use Rattle.window.proofs.Replies.{proper}
-use Rattle.bounds.proofs.Replies.{window_proper, request_answer}
+use Rattle.model.proofs.Bounds.{request_is}
 use Rattle.bounds.proofs.request.Goals as goal
 
-pub overflow_sub-to : goal.overflow_sub-to
-overflow_sub-to c =
-    let kept = sym c.question_rule-rule.ensures ∙ ap paper c.in_default.is in
-    omega (arith, (proper _ _ _ _ kept).window.forward)
-
-pub request_of-requires : goal.request_of-requires
-request_of-requires c = window_proper _ _ _ _ (sym c.question_rule-rule.ensures ∙ ap paper c.in_default.is)
-
-pub returns : goal.returns
-returns c =
-    let kept = sym c.question_rule-rule.ensures ∙ ap paper c.in_default.is in
-    let (reply, bound) = request_answer _ _ _ _ kept c.request_of.ensures in
-    record { says = reply; promises = bound }
+pub returns-clause-promises : goal.returns-clause-promises
+returns-clause-promises c =
+    let of = rw c.from.ensures at c.in_ok-window.ensures.window in
+    rw (c.request_of.ensures, of.machine, of.from) (request_is _ _ _ _ of.to)
