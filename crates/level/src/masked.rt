@@ -30,7 +30,8 @@ impl<'a> MaskedSheet<'a> {
     pub fn new(sheet: Sheet<'a>) -> Self
         ensures { result.sheet.bytes.now ≡ sheet.entry.bytes.now }
     {
-        let masks = masks_of(&sheet);
+        let mut masks = [[0; HYPERPERIOD_MASKS]; 8];
+        mark(&sheet, &mut masks);
         let lowest = lowest_of(&masks, sheet.machines, sheet.hyperperiod as usize);
         MaskedSheet {
             sheet,
@@ -41,14 +42,12 @@ impl<'a> MaskedSheet<'a> {
 }
 
 // The masks of a sheet's machines.
-fn masks_of(sheet: &Sheet<'_>) -> [Masks; 8]
-    ensures { Masked sheet.now.bytes.now result }
+fn mark(sheet: &Sheet<'_>, masks: &mut [Masks; 8])
+    ensures { Masked sheet.now.bytes.now masks.new }
 {
-    let mut masks = [[0; HYPERPERIOD_MASKS]; 8];
     for j in 0..sheet.machines {
         masks[j] = machine_masks(&sheet.machine(j), sheet.hyperperiod as usize);
     }
-    masks
 }
 
 // And of one machine, for the ticks below h.
