@@ -1,96 +1,79 @@
-// The text of `fit`, made in lent bytes. Definitions: specs/Fit.antt.
+// The text of `fit`. Definitions: specs/Fit.antt.
 #![tactic(auto)]
 
-ghost use Rattle.std.specs.Prelude.{◌≡◌, ◌+◌, ◌*◌, ◌≤◌, ◌<◌, length};
-ghost use Rattle.model.specs.Verdict.{verdict};
-ghost use Rattle.reply.specs.Printed.{printed_length, printed_refusal, printed};
-ghost use Rattle.sheet.specs.Format.{machine_count, decode};
-ghost use Rattle.sheet.specs.Inside.{Counted};
+ghost use Rattle.std.specs.Prelude.{◌≡◌, [], ◌+◌, ◌≤◌, ◌<◌, ◌++◌};
+ghost use Rattle.arrayvec.specs.ArrayString.{array_string_len};
+ghost use Rattle.reply.specs.Printed.{printed_length, handed, printed_refusal, printed};
+ghost use Rattle.sheet.specs.Format.{decode};
 ghost use Rattle.rules.specs.Check.{refusal_of};
-ghost use Rattle.text.specs.Inside.{Put};
-ghost use Rattle.fit_text.specs.Fit.{machine_line, machine_lines, verdict_line, accepted_text, fit_text};
+ghost use Rattle.verdict.specs.Inside.{judgement};
+ghost use Rattle.fit_text.specs.Fit.{machine_line, verdict_line, accepted_text, fit_text};
 
-use reply::{Checked, Printed};
-use verdict::Given;
+use arrayvec::ArrayString;
+use reply::{Printed, Verdict};
+use sheet::Sheet;
+use text::{put_line, put_refused};
+use window::MachineWindow;
 
 // The line of a machine.
-fn put_machine(out: &mut [u8], at: usize, sheet: &[u8], machine: usize, h: u32) -> usize
-    requires { Counted sheet.now (machine_count sheet.now) h × (machine < machine_count sheet.now)
-        × (at + 46 ≤ length out.old) }
-    ensures { Put out.old at (machine_line (decode sheet.now) machine) result out.new
-        × (result ≤ at + 46) }
+fn put_machine(text: &mut ArrayString<512>, sheet: &Sheet<'_>, number: usize)
+    requires known { number < sheet.now.machines }
+    requires room { array_string_len text.old + 46 ≤ 512 }
+    ensures says { text.new.bytes ≡ text.old.bytes ++ machine_line (decode sheet.now.bytes.now) number }
+    ensures short { array_string_len text.new ≤ array_string_len text.old + 46 }
 {
-    let entry = sheet::entry_of(sheet, machine);
-    let states = entry.states as u32;
-    let actions = entry.actions as u32;
-    let bound = bounds::request_of(sheet, machine, 0, h);
-    let numbers = [machine as u32, states, actions, bound];
-    text::put_line(out, at, b"M", &numbers)
-}
-
-// The lines of the machines.
-fn put_machines(out: &mut [u8], at: usize, sheet: &[u8], machines: usize, h: u32) -> usize
-    requires { Counted sheet.now machines h
-        × (at + 46 * machines ≤ length out.old) }
-    ensures { Put out.old at (machine_lines (decode sheet.now) machines) result out.new
-        × (result ≤ at + 46 * machines) }
-{
-    let mut next = at;
-    let mut k = 0;
-    while k < machines {
-        next = put_machine(out, next, sheet, k, h);
-        k += 1;
-    }
-    next
+    let machine = sheet.machine(number);
+    let states = machine.states() as u32;
+    let actions = machine.actions() as u32;
+    let bound = bounds::request_of(&MachineWindow {
+        machine,
+        from: 0,
+        length: sheet.hyperperiod,
+    });
+    put_line(text, "M", &[number as u32, states, actions, bound]);
 }
 
 // The line of the verdict.
-fn put_verdict(out: &mut [u8], at: usize, sheet: &[u8], machines: usize, h: u32) -> usize
-    requires { Counted sheet.now machines h × (at + 49 ≤ length out.old) }
-    ensures { Put out.old at (verdict_line (verdict (decode sheet.now)))
-        result out.new }
+fn put_verdict(text: &mut ArrayString<512>, verdict: Verdict)
+    requires { array_string_len text.old + 49 ≤ 512 }
+    ensures { text.new.bytes ≡ text.old.bytes ++ verdict_line (judgement verdict) }
 {
-    let given = verdict::verdict_of(sheet, machines, h as usize);
-    match given {
-        Given::Nothing => text::put_bytes(out, at, b"FITS\n"),
-        Given::Late(w) => {
-            let numbers = [w.machine, w.start, w.length, w.demand];
-            text::put_line(out, at, b"LATE", &numbers)
-        }
-        Given::Open { machine, start } => {
-            let numbers = [machine, start];
-            text::put_line(out, at, b"OPEN", &numbers)
-        }
+    match verdict {
+        Verdict::Fits => put_line(text, "FITS", &[]),
+        Verdict::Late(window) => put_line(
+            text,
+            "LATE",
+            &[window.machine, window.start, window.length, window.demand],
+        ),
+        Verdict::Open { machine, start } => put_line(text, "OPEN", &[machine, start]),
     }
 }
 
 // The text of an accepted sheet.
-fn put_accepted(out: &mut [u8], sheet: &[u8], machines: usize, h: u32) -> usize
-    requires { Counted sheet.now machines h × (512 ≤ length out.old) }
-    ensures { Put out.old 0 (accepted_text (decode sheet.now)) result out.new }
+#[tactic(auto, using(sheet::proofs::Decode::decode_count), unfolding(crate::specs::Fit::machine_lines))]
+fn put_accepted(text: &mut ArrayString<512>, sheet: &Sheet<'_>)
+    requires { text.old.bytes ≡ [] }
+    ensures { text.new.bytes ≡ accepted_text (decode sheet.now.bytes.now) }
 {
-    let numbers = [h];
-    let first = text::put_line(out, 0, b"H", &numbers);
-    let last = put_machines(out, first, sheet, machines, h);
-    put_verdict(out, last, sheet, machines, h)
+    put_line(text, "H", &[sheet.hyperperiod]);
+    for number in 0..sheet.machines {
+        put_machine(text, sheet, number);
+    }
+    put_verdict(text, verdict::verdict_of(sheet));
 }
 
-// Makes the text of `fit` at the start of the lent bytes and answers its length, and the refusal that it prints. Bytes
-// past the text stay as they were; with fewer than 512 bytes lent nothing is written, and the length is 0.
+// Makes the text of `fit` at the start of the lent bytes and answers its length, and the reason for the refusal that it
+// prints. Bytes past the text stay as they were; with fewer than 512 bytes lent nothing is written, and the length is 0.
 pub fn fit(sheet: &[u8], out: &mut [u8]) -> Printed
     ensures size { result.length ≡ printed_length 512 (fit_text sheet.now) out.old }
-    ensures hands { result.refusal ≡ printed_refusal 512 (refusal_of sheet.now) out.old }
+    ensures hands { handed result.refused ≡ printed_refusal 512 (refusal_of sheet.now) out.old }
     ensures writes { out.new ≡ printed 512 (fit_text sheet.now) out.old }
 {
-    if out.len() < 512 {
-        return text::unrefused(0);
+    let mut text = ArrayString::new();
+    let accepted = rules::accept(sheet);
+    match &accepted {
+        Ok(sheet) => put_accepted(&mut text, sheet),
+        Err(reason) => put_refused(&mut text, *reason),
     }
-    let checked = rules::check(sheet);
-    match checked {
-        Checked::Refused(refusal) => text::print_refused(out, refusal),
-        Checked::Accepted {
-            machines,
-            hyperperiod,
-        } => text::unrefused(put_accepted(out, sheet, machines as usize, hyperperiod)),
-    }
+    text::print(&text, accepted.err(), out)
 }
