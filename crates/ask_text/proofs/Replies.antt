@@ -1,38 +1,47 @@
 -- The text of `ask`, from the answers of the calls that it prints.
-use Prim.Native.Nat.{ℕ, ◌+◌, ◌*◌, ◌≤◌}
+use Prim.Native.Nat.{ℕ, zero, suc, ◌+◌, ◌*◌, ◌/◌, ◌≤◌}
 use mathlib.Core.Path.{◌≡◌, refl, sym, ◌∙◌, ap, ap₂}
-use mathlib.Core.List.{List, [], ◌∷◌, ◌++◌, append-nil}
-use Rattle.std.specs.Prelude.{Option, None, Some}
+use mathlib.Core.List.{List, [], ◌∷◌, ◌++◌, append_assoc, append-nil}
 use native.Mathlib.Omega.{arith}
-use lib.ListN.{length, take, drop}
+use lib.ListN.{length, take, drop, length-append}
 use lib.Seq.{take_at}
-use Rattle.model.specs.Machine.{machine_of}
-use Rattle.reply.specs.declared.Refusal.{Refusal}
-use Rattle.reply.specs.declared.Answer.{Answer}
-use Rattle.reply.specs.declared.Answer.TheVariants.{Value, Refused}
-use Rattle.reply.specs.declared.Tabled.{Tabled}
-use Rattle.reply.specs.declared.Tabled.TheVariants.{Filled, Refused as refusedWith}
-use Rattle.reply.specs.declared.Printed.{Printed}
+use Rattle.std.specs.Simd.{first_chunks}
+use Rattle.std.specs.Prelude.{Option, None, Some, Result, Ok, Err, ⊤}
+use Rattle.reply.specs.declared.Kind.{Kind}
 use Rattle.reply.specs.declared.Kind.TheVariants.{Table, Critical}
+use Rattle.model.specs.Legal.{Pair}
+use Rattle.model.specs.Machine.{machine_of}
+use Rattle.reply.specs.declared.Printed.{Printed}
 use Rattle.reply.specs.declared.Question.{Question}
-use Rattle.reply.specs.Reply.{Reply, answer, refused, ◌otherwise◌}
-use Rattle.reply.specs.Lent.{unless_refused, in_front}
+use Rattle.reply.specs.declared.Reason.{Reason}
+use Rattle.reply.specs.declared.Refusal.{Refusal}
 use Rattle.reply.specs.Answer.{paper}
-use Rattle.reply.specs.Tabled.{paper as tabledPaper}
-use Rattle.reply.proofs.Refusals.{or_else_none, enough}
+use Rattle.reply.specs.Inside.{refused_by}
+use Rattle.reply.specs.Lent.{in_front, unless_refused}
+use Rattle.reply.specs.Reply.{Reply, answer, ◌otherwise◌}
+use Rattle.reply.specs.Tabled.{paper as tabled_paper}
 use Rattle.reply.proofs.Printing.{Promised, promised_unique}
+use Rattle.reply.proofs.Refusals.{or_else_none, enough}
 use Rattle.sheet.specs.Format.{decode}
 use Rattle.window.specs.Window.{question_refusal}
 use Rattle.bounds.specs.Table.{request_table, table_refusal, table_reply, with_table, table_words}
 use Rattle.bounds.proofs.Filling.{listed_length}
-use Rattle.critical.specs.Critical.{sequence_of, words_of, critical_refusal, critical_reply, critical_words}
-use Rattle.critical.specs.Critical.{longest_words, pairs_in}
-use Rattle.critical.proofs.Words.{words_pairs}
-use Rattle.text.specs.Text.{number_line, refused_line}
-use Rattle.text.specs.Inside.{Put, Prints}
-use Rattle.ask_text.specs.Ask.{number_lines, pair_lines, reply_text, refusal_in, lent}
-use Rattle.ask_text.specs.Ask.{answer_reply, written, answer_text, answer_refusal, ask_text, ask_refusal}
-use Rattle.ask_text.proofs.Lines.{number_alone, no_numbers}
+use Rattle.critical.specs.Critical.{longest_words, sequence_of, words_of}
+use Rattle.critical.specs.Critical.{critical_refusal, critical_reply, critical_words}
+use Rattle.critical.proofs.Words.{words_length}
+use Rattle.text.specs.Text.{number_line}
+use Rattle.ask_text.specs.Inside.{array_lines}
+use Rattle.ask_text.specs.Ask.{number_lines, pair_lines, reply_text, refusal_in, lent, answer_reply, written}
+use Rattle.ask_text.specs.Ask.{answer_text, ask_text, ask_refusal}
+
+-- the refusal of an answer
+pub answer_refused : (r : Result ℕ Reason) → refusal_in (paper r) ≡ refused_by r
+answer_refused (Ok v) = refl
+answer_refused (Err r) = refl
+
+pub tabled_refused : (r : Result ⊤ Reason) → refusal_in (tabled_paper r) ≡ refused_by r
+tabled_refused (Ok _) = refl
+tabled_refused (Err r) = refl
 
 -- an answer has no refusal behind it
 answered : {n : ℕ} {figures : List ℕ} (m : ℕ) (others : List ℕ) (x : Option Refusal)
@@ -40,101 +49,84 @@ answered : {n : ℕ} {figures : List ℕ} (m : ℕ) (others : List ℕ) (x : Opt
 answered m others None e = (refl, cc)
 answered m others (Some r) e = absurd (let z : ◌≡◌ {A = ℕ} 0 1 = cc in omega arith)
 
--- a reply's text, by its case
-module _ (more : List ℕ) (reply : Reply) {before after : List ℕ} {q : Printed} where
-  pub refused_text : {x : Refusal} → reply ≡ refused x → Prints before (refused_line x) (Some x) q after
-      → Prints before (reply_text reply more) (refusal_in reply) q after
-  refused_text e p = rw e p
+-- a reply that answers, as it is put into an empty text
+answered_text : (more : List ℕ) {reply : Reply} {n : ℕ} {figures before after : List ℕ} → answer n figures ≡ reply
+    → before ≡ [] → after ≡ before ++ (number_lines figures ++ more) → after ≡ reply_text reply more
+answered_text more {figures = figures} e empty put =
+    put ∙ ap (λ text. text ++ (number_lines figures ++ more)) empty ∙ ap (λ r. reply_text r more) e
 
-  pub answered_text : {n : ℕ} {figures : List ℕ} → reply ≡ answer n figures
-      → Prints before (number_lines figures ++ more) None q after
-      → Prints before (reply_text reply more) (refusal_in reply) q after
-  answered_text e p = rw e p
+module _ (b : List ℕ) (i s n : ℕ) (words : List ℕ) (says : answer 0 [] ≡ table_reply b i s n words) where
+  table_kept : table_refusal b i s n (length words) ≡ None
+  table_kept = (answered 0 [] _ says).0
 
--- a figure, as the text of its answer
-pub figure_put : {b c : List ℕ} {at r : ℕ} (v : ℕ) → Put b at (number_line v []) r c
-    → Put b at (reply_text (paper (Value v)) []) r c
-figure_put v p = rw (append-nil (number_lines (v ∷ [])), number_alone v) p
+  -- where `table` answers, the words have room for the table
+  pub table_room : n + 1 ≤ length words
+  unfolding table_refusal
+  table_room = enough (n + 1) _ (or_else_none (question_refusal b i s (s + n)) _ table_kept).1
 
--- the table's text, by the answer
-module _ (b : List ℕ) (i s n : ℕ) (r : Tabled) (says : tabledPaper r ≡ table_reply b i s n lent) where
-  table_reply_lem : {x : Tabled} → r ≡ x → answer_reply Table b i s n ≡ tabledPaper x
-  unfolding answer_reply
-  table_reply_lem e = sym says ∙ ap tabledPaper e
+  -- and begin with it
+  table_begins : {after : List ℕ} → after ≡ table_words b i s n words
+      → take (n + 1) after ≡ request_table (machine_of (decode b) i) s n
+  table_begins writes =
+      let table = request_table (machine_of (decode b) i) s n in
+      ap (take (n + 1)) (writes ∙ ap (λ x. unless_refused x (in_front table words) words) table_kept)
+      ∙ take_at table (drop (length table) words) (n + 1) (listed_length _ (n + 1))
 
-  pub table_refused : {x : Refusal} {before after : List ℕ} {q : Printed} → r ≡ refusedWith x
-      → Prints before (refused_line x) (Some x) q after
-      → Prints before (answer_text Table b i s n) (answer_refusal Table b i s n) q after
-  table_refused e = refused_text (written Table b i s n) (answer_reply Table b i s n) (table_reply_lem e)
+-- which makes the text
+pub table_text : (b : List ℕ) (i s n : ℕ) {kind : Kind} {words before after : List ℕ} → kind ≡ Table
+    → answer 0 [] ≡ table_reply b i s n lent → words ≡ table_words b i s n lent
+    → before ≡ [] → after ≡ before ++ number_lines (take (n + 1) words) → after ≡ answer_text kind b i s n
+unfolding answer_reply written
+table_text b i s n {before = before} k says writes empty put =
+    rw k (answered_text (number_lines (request_table (machine_of (decode b) i) s n)) says empty
+    (put ∙ ap (λ table. before ++ number_lines table) (table_begins b i s n lent says writes)))
 
-  module _ (e : r ≡ Filled) where
-    kept : table_refusal b i s n (length lent) ≡ None
-    kept = (answered 0 [] _ (ap tabledPaper (sym e) ∙ says)).0
+-- the lines of a sequence's words, two by two
+sequence_lines : (σ : List Pair) (rest : List ℕ) (k : ℕ) → length σ ≤ k
+    → array_lines (take (length σ) (first_chunks 2 k (words_of σ ++ rest))) ≡ pair_lines σ
+unfolding words_of
+sequence_lines [] rest k l = refl
+sequence_lines (p ∷ σ) rest zero l = absurd (omega arith)
+sequence_lines (p ∷ σ) rest (suc k) l =
+    ap (λ lines. number_line p.action (p.instant ∷ []) ++ lines) (sequence_lines σ rest k (omega arith))
 
-    pub table_room : n + 1 ≤ longest_words
-    unfolding table_refusal
-    table_room = enough (n + 1) longest_words (or_else_none (question_refusal b i s (s + n)) _ kept).1
+module _ (b : List ℕ) (i s f : ℕ) (words : List ℕ) {number : ℕ} (says : answer 0 (number ∷ []) ≡ critical_reply b i s f words) where
+  critical_found : (critical_refusal b i s f (length words) ≡ None) × (number ∷ [] ≡ length (sequence_of b i s f) ∷ [])
+  critical_found = answered 0 _ _ says
 
-    module _ (words : List ℕ) (p : words ≡ table_words b i s n lent) where
-      front : take (n + 1) words ≡ request_table (machine_of (decode b) i) s n
-      front =
-          let table = request_table (machine_of (decode b) i) s n in
-          ap (take (n + 1)) (p ∙ ap (λ x. unless_refused x (with_table b i s n lent) lent) kept)
-          ∙ take_at table (drop (length table) lent) (n + 1) (listed_length _ (n + 1))
+  critical_counted : number ≡ length (sequence_of b i s f)
+  critical_counted = let q = critical_found.1 in cc
 
-      pub table_taken : n + 1 ≡ length (take (n + 1) words)
-      table_taken = sym (ap length front ∙ listed_length _ (n + 1))
+  -- where `critical` answers, the words have room for the sequence
+  pub critical_room : 2 * number ≤ length words
+  unfolding critical_refusal
+  critical_room =
+      rw critical_counted (enough _ _ (or_else_none (question_refusal b i s f) _ critical_found.0).1)
 
-      lines : number_lines (take (n + 1) words) ≡ number_lines [] ++ written Table b i s n
-      unfolding written
-      lines =
-          let table = number_lines (request_table (machine_of (decode b) i) s n) in
-          ap number_lines front ∙ ap (λ l. l ++ table) (sym no_numbers)
+  -- and begin with it
+  critical_begins : {after : List ℕ} {k : ℕ} → after ≡ critical_words b i s f words → number ≤ k
+      → array_lines (take number (first_chunks 2 k after)) ≡ pair_lines (sequence_of b i s f)
+  critical_begins {after} writes l =
+      let σ = sequence_of b i s f in
+      let rest = drop (length (words_of σ)) words in
+      let begins : after ≡ words_of σ ++ rest =
+      writes ∙ ap (λ x. unless_refused x (in_front (words_of σ) words) words) critical_found.0 in
+      rw (begins, critical_counted) (sequence_lines σ rest _ (omega (arith, critical_counted)))
 
-      pub table_filled : {before after : List ℕ} {q : Printed}
-          → Prints before (number_lines (take (n + 1) words)) None q after
-          → Prints before (answer_text Table b i s n) (answer_refusal Table b i s n) q after
-      table_filled t =
-          answered_text (written Table b i s n) (answer_reply Table b i s n) (table_reply_lem e) (rw lines at t)
-
--- the critical sequence's text, by the answer
-module _ (b : List ℕ) (i s f : ℕ) (r : Answer) (says : paper r ≡ critical_reply b i s f lent) where
-  critical_reply_lem : {x : Answer} → r ≡ x → answer_reply Critical b i s f ≡ paper x
-  unfolding answer_reply
-  critical_reply_lem e = sym says ∙ ap paper e
-
-  pub critical_refused : {x : Refusal} {before after : List ℕ} {q : Printed} → r ≡ Refused x
-      → Prints before (refused_line x) (Some x) q after
-      → Prints before (answer_text Critical b i s f) (answer_refusal Critical b i s f) q after
-  critical_refused e = refused_text (written Critical b i s f) (answer_reply Critical b i s f) (critical_reply_lem e)
-
-  module _ (number : ℕ) (e : r ≡ Value number) where
-    found : (critical_refusal b i s f (length lent) ≡ None) × (number ∷ [] ≡ length (sequence_of b i s f) ∷ [])
-    found = answered 0 _ _ (ap paper (sym e) ∙ says)
-
-    counted : number ≡ length (sequence_of b i s f)
-    counted = let q = found.1 in cc
-
-    pub critical_room : 2 * number ≤ longest_words
-    unfolding critical_refusal
-    critical_room =
-        rw counted (enough _ longest_words (or_else_none (question_refusal b i s f) _ found.0).1)
-
-    pairs : (words : List ℕ) → words ≡ critical_words b i s f lent
-        → pair_lines (pairs_in number words) ≡ written Critical b i s f
-    unfolding written
-    pairs words p =
-        let σ = sequence_of b i s f in
-        let after : words ≡ in_front (words_of σ) lent =
-        p ∙ ap (λ x. unless_refused x (in_front (words_of σ) lent) lent) found.0 in
-        ap pair_lines (ap₂ pairs_in counted after ∙ words_pairs σ (drop (length (words_of σ)) lent))
-
-    pub critical_filled : {before after : List ℕ} {q : Printed} (words : List ℕ) → words ≡ critical_words b i s f lent
-        → Prints before (number_line number [] ++ pair_lines (pairs_in number words)) None q after
-        → Prints before (answer_text Critical b i s f) (answer_refusal Critical b i s f) q after
-    critical_filled words p t =
-        answered_text (written Critical b i s f) (answer_reply Critical b i s f) (critical_reply_lem e)
-        (rw (← number_alone number, pairs words p) at t)
+-- which makes the text
+pub critical_text : (b : List ℕ) (i s f : ℕ) {number k : ℕ} {kind : Kind} {words before first after : List ℕ}
+    {pairs : List (List ℕ)} → kind ≡ Critical
+    → answer 0 (number ∷ []) ≡ critical_reply b i s f lent → words ≡ critical_words b i s f lent
+    → before ≡ [] → first ≡ before ++ number_line number [] → pairs ≡ first_chunks 2 k words → number ≤ k
+    → after ≡ first ++ array_lines (take number pairs) → after ≡ answer_text kind b i s f
+unfolding answer_reply written
+critical_text b i s f {number} {before = before} {pairs = pairs} k says writes empty figure chunks room put =
+    let σ = sequence_of b i s f in
+    let lines : array_lines (take number pairs) ≡ pair_lines σ =
+    rw chunks (critical_begins b i s f lent says writes room) in
+    rw k (answered_text (pair_lines σ) says empty (put ∙ ap₂ ◌++◌ figure lines
+    ∙ append_assoc before (number_line number []) (pair_lines σ)
+    ∙ ap (λ line. before ++ (line ++ pair_lines σ)) (sym (append-nil (number_line number [])))))
 
 -- no second result and no second memory satisfy the contract of `ask`
 pub ask_unique : (b : List ℕ) (asked : Question) (before : List ℕ) (r q : Printed) (after other : List ℕ)

@@ -1,6 +1,7 @@
 -- The program `ask`: the text of the answer to a question.
 use Rattle.std.specs.Prelude.{ℕ, List, [], ◌∷◌, ◌++◌, replicate}
 use Rattle.std.specs.Prelude.{Option, None, Some}
+use Rattle.std.specs.List.{flat_map}
 use Rattle.model.specs.Machine.{machine_of}
 use Rattle.model.specs.Legal.{Pair}
 use Rattle.reply.specs.declared.Refusal.{Refusal}
@@ -16,14 +17,12 @@ use Rattle.critical.specs.Critical.{longest_words, sequence_of, critical_reply}
 use Rattle.text.specs.Text.{number_line, refused_line}
 
 -- numbers, one a line
-unfoldable pub number_lines : List ℕ → List ℕ
-number_lines [] = []
-number_lines (n ∷ ns) = number_line n [] ++ number_lines ns
+abbrev pub number_lines : List ℕ → List ℕ
+number_lines ns = flat_map (λ n. number_line n []) ns
 
 -- a line `action instant` for each pair
-unfoldable pub pair_lines : List Pair → List ℕ
-pair_lines [] = []
-pair_lines (p ∷ σ) = number_line p.action (p.instant ∷ []) ++ pair_lines σ
+abbrev pub pair_lines : List Pair → List ℕ
+pair_lines σ = flat_map (λ p. number_line p.action (p.instant ∷ [])) σ
 
 -- a refusal prints as in `fit`; an answer prints its figures, one a line, and what goes with them
 abbrev pub reply_text : Reply → List ℕ → List ℕ

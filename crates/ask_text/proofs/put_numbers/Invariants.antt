@@ -1,13 +1,12 @@
-use Rattle.std.proofs.Common.{◌-◌, ◌*◌, ◌≤◌, length, take}
-use Rattle.text.specs.Inside.{Put}
+use Rattle.std.proofs.Common.{◌≡◌, ◌+◌, ◌*◌, ◌≤◌, ◌++◌, take}
+use Rattle.arrayvec.specs.ArrayString.{array_string_len}
 use Rattle.ask_text.specs.Ask.{number_lines}
 use Rattle.ask_text.proofs.put_numbers.Given as goal
 
--- the first k numbers are put
-abbrev pub invariant-loop-k : goal.invariant-loop-k
-invariant-loop-k l =
-    (l.k ≤ length l.numbers) × (l.next ≤ 11 * l.k)
-    × Put l.initial.out 0 (number_lines (take l.k l.numbers)) l.next l.out
-
-abbrev pub decreases-loop-k : goal.decreases-loop-k
-decreases-loop-k l = length l.numbers - l.k
+-- the first numbers are put, each in eleven characters at most
+abbrev pub invariant-loop-number : goal.invariant-loop-number
+invariant-loop-number l =
+    record {
+      says : l.text.bytes ≡ l.fn.text.bytes ++ number_lines (take l.number-index l.numbers);
+      short : array_string_len l.text ≤ array_string_len l.fn.text + 11 * l.number-index;
+    }

@@ -1,14 +1,12 @@
-use Rattle.std.proofs.Common.{◌+◌, ◌-◌, ◌*◌, ◌≤◌}
-use Rattle.text.specs.Inside.{Put}
-use Rattle.critical.specs.Critical.{pairs_in}
-use Rattle.ask_text.specs.Ask.{pair_lines}
+use Rattle.std.proofs.Common.{◌≡◌, ◌+◌, ◌*◌, ◌≤◌, ◌++◌, take}
+use Rattle.arrayvec.specs.ArrayString.{array_string_len}
+use Rattle.ask_text.specs.Inside.{array_lines}
 use Rattle.ask_text.proofs.put_pairs.Given as goal
 
--- the first k pairs are put
-abbrev pub invariant-loop-k : goal.invariant-loop-k
-invariant-loop-k l =
-    (l.k ≤ l.pairs) × (l.next ≤ l.at + 22 * l.k)
-    × Put l.initial.out l.at (pair_lines (pairs_in l.k l.words)) l.next l.out
-
-abbrev pub decreases-loop-k : goal.decreases-loop-k
-decreases-loop-k l = l.pairs - l.k
+-- the first pairs are put, each in twenty-two characters at most
+abbrev pub invariant-loop-action : goal.invariant-loop-action
+invariant-loop-action l =
+    record {
+      says : l.text.bytes ≡ l.fn.text.bytes ++ array_lines (take l.action-index l.pairs);
+      short : array_string_len l.text ≤ array_string_len l.fn.text + 22 * l.action-index;
+    }
