@@ -43,6 +43,8 @@ pub tabled_refused : (r : Result ⊤ Reason) → refusal_in (tabled_paper r) ≡
 tabled_refused (Ok _) = refl
 tabled_refused (Err r) = refl
 
+pub ruleset refusals = (answer_refused, tabled_refused)
+
 -- an answer has no refusal behind it
 answered : {n : ℕ} {figures : List ℕ} (m : ℕ) (others : List ℕ) (x : Option Refusal)
     → answer n figures ≡ x otherwise answer m others → (x ≡ None) × (figures ≡ others)
@@ -76,7 +78,6 @@ module _ (b : List ℕ) (i s n : ℕ) (words : List ℕ) (says : answer 0 [] ≡
 pub table_text : (b : List ℕ) (i s n : ℕ) {kind : Kind} {words before after : List ℕ} → kind ≡ Table
     → answer 0 [] ≡ table_reply b i s n lent → words ≡ table_words b i s n lent
     → before ≡ [] → after ≡ before ++ number_lines (take (n + 1) words) → after ≡ answer_text kind b i s n
-unfolding answer_reply written
 table_text b i s n {before = before} k says writes empty put =
     rw k (answered_text (number_lines (request_table (machine_of (decode b) i) s n)) says empty
     (put ∙ ap (λ table. before ++ number_lines table) (table_begins b i s n lent says writes)))
@@ -90,7 +91,8 @@ sequence_lines (p ∷ σ) rest zero l = absurd (omega arith)
 sequence_lines (p ∷ σ) rest (suc k) l =
     ap (λ lines. number_line p.action (p.instant ∷ []) ++ lines) (sequence_lines σ rest k (omega arith))
 
-module _ (b : List ℕ) (i s f : ℕ) (words : List ℕ) {number : ℕ} (says : answer 0 (number ∷ []) ≡ critical_reply b i s f words) where
+module _ (b : List ℕ) (i s f : ℕ) (words : List ℕ) {number : ℕ}
+    (says : answer 0 (number ∷ []) ≡ critical_reply b i s f words) where
   critical_found : (critical_refusal b i s f (length words) ≡ None) × (number ∷ [] ≡ length (sequence_of b i s f) ∷ [])
   critical_found = answered 0 _ _ says
 
@@ -119,7 +121,6 @@ pub critical_text : (b : List ℕ) (i s f : ℕ) {number k : ℕ} {kind : Kind} 
     → answer 0 (number ∷ []) ≡ critical_reply b i s f lent → words ≡ critical_words b i s f lent
     → before ≡ [] → first ≡ before ++ number_line number [] → pairs ≡ first_chunks 2 k words → number ≤ k
     → after ≡ first ++ array_lines (take number pairs) → after ≡ answer_text kind b i s f
-unfolding answer_reply written
 critical_text b i s f {number} {before = before} {pairs = pairs} k says writes empty figure chunks room put =
     let σ = sequence_of b i s f in
     let lines : array_lines (take number pairs) ≡ pair_lines σ =

@@ -39,7 +39,7 @@ abbrev pub lent : List ℕ
 lent = replicate longest_words 0
 
 -- the reply about machine i of sheet b and the window from s to f
-unfoldable pub answer_reply : Kind → List ℕ → ℕ → ℕ → ℕ → Reply
+abbrev pub answer_reply : Kind → List ℕ → ℕ → ℕ → ℕ → Reply
 answer_reply Request b i s f = request_reply b i s f
 answer_reply Demand b i s f = demand_reply b i s f
 answer_reply Plain b i s f = plain_reply b i s f
@@ -47,7 +47,7 @@ answer_reply Table b i s n = table_reply b i s n lent
 answer_reply Critical b i s f = critical_reply b i s f lent
 
 -- what goes with its figures: the words of a table, the pairs of a critical sequence
-unfoldable pub written : Kind → List ℕ → ℕ → ℕ → ℕ → List ℕ
+abbrev pub written : Kind → List ℕ → ℕ → ℕ → ℕ → List ℕ
 written Request b i s f = []
 written Demand b i s f = []
 written Plain b i s f = []

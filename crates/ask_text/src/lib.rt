@@ -34,7 +34,7 @@ fn put_pairs(text: &mut ArrayString<65536>, pairs: &[[u32; 2]])
 }
 
 // The answer to a question; nothing where it is refused.
-#[tactic(auto, using(crate::proofs::Replies::answer_refused, crate::proofs::Replies::tabled_refused), unfolding(crate::specs::Ask::answer_reply, crate::specs::Ask::written))]
+#[tactic(auto, using(crate::proofs::Replies::refusals))]
 fn put_answer(text: &mut ArrayString<65536>, sheet: &[u8], question: Question) -> Result<(), Reason>
     requires { text.old.bytes ≡ [] }
     ensures refused { refused_by result ≡ ask_refusal sheet.now question }

@@ -63,7 +63,8 @@ fn put_accepted(text: &mut ArrayString<512>, sheet: &Sheet<'_>)
 }
 
 // Makes the text of `fit` at the start of the lent bytes and answers its length, and the reason for the refusal that it
-// prints. Bytes past the text stay as they were; with fewer than 512 bytes lent nothing is written, and the length is 0.
+// prints. Bytes past the text stay as they were; with fewer than 512 bytes lent nothing is written, and the length is
+// 0.
 pub fn fit(sheet: &[u8], out: &mut [u8]) -> Printed
     ensures size { result.length ≡ printed_length 512 (fit_text sheet.now) out.old }
     ensures hands { handed result.refused ≡ printed_refusal 512 (refusal_of sheet.now) out.old }
