@@ -1,11 +1,12 @@
 -- The text of `ask`, from the answers of the calls that it prints.
-use Prim.Native.Nat.{ℕ, zero, suc, ◌+◌, ◌*◌, ◌/◌, ◌≤◌}
+use Prim.Native.Nat.{ℕ, zero, suc, ◌+◌, ◌*◌, ◌≤◌}
 use mathlib.Core.Path.{◌≡◌, refl, sym, ◌∙◌, ap, ap₂}
 use mathlib.Core.List.{List, [], ◌∷◌, ◌++◌, append_assoc, append-nil}
 use native.Mathlib.Omega.{arith}
-use lib.ListN.{length, take, drop, length-append}
+use lib.ListN.{length, take, drop}
 use lib.Seq.{take_at}
 use Rattle.std.specs.Simd.{first_chunks}
+use Rattle.std.proofs.lemmas.List.FromFn.{length-map-range_with_len}
 use Rattle.std.specs.Prelude.{Option, None, Some, Result, Ok, Err, ⊤}
 use Rattle.reply.specs.declared.Kind.{Kind}
 use Rattle.reply.specs.declared.Kind.TheVariants.{Table, Critical}
@@ -24,14 +25,12 @@ use Rattle.reply.proofs.Printing.{Promised, promised_unique}
 use Rattle.reply.proofs.Refusals.{or_else_none, enough}
 use Rattle.sheet.specs.Format.{decode}
 use Rattle.window.specs.Window.{question_refusal}
-use Rattle.bounds.specs.Table.{request_table, table_refusal, table_reply, with_table, table_words}
-use Rattle.bounds.proofs.Filling.{listed_length}
-use Rattle.critical.specs.Critical.{longest_words, sequence_of, words_of}
+use Rattle.bounds.specs.Table.{request_table, table_refusal, table_reply, table_words}
+use Rattle.critical.specs.Critical.{sequence_of, words_of}
 use Rattle.critical.specs.Critical.{critical_refusal, critical_reply, critical_words}
-use Rattle.critical.proofs.Words.{words_length}
 use Rattle.text.specs.Text.{number_line}
 use Rattle.ask_text.specs.Inside.{array_lines}
-use Rattle.ask_text.specs.Ask.{number_lines, pair_lines, reply_text, refusal_in, lent, answer_reply, written}
+use Rattle.ask_text.specs.Ask.{number_lines, pair_lines, reply_text, refusal_in, lent}
 use Rattle.ask_text.specs.Ask.{answer_text, ask_text, ask_refusal}
 
 -- the refusal of an answer
@@ -72,7 +71,7 @@ module _ (b : List ℕ) (i s n : ℕ) (words : List ℕ) (says : answer 0 [] ≡
   table_begins writes =
       let table = request_table (machine_of (decode b) i) s n in
       ap (take (n + 1)) (writes ∙ ap (λ x. unless_refused x (in_front table words) words) table_kept)
-      ∙ take_at table (drop (length table) words) (n + 1) (listed_length _ (n + 1))
+      ∙ take_at table (drop (length table) words) (n + 1) (length-map-range_with_len _ 0 (n + 1))
 
 -- which makes the text
 pub table_text : (b : List ℕ) (i s n : ℕ) {kind : Kind} {words before after : List ℕ} → kind ≡ Table
