@@ -2,6 +2,7 @@
 #![tactic(auto)]
 
 ghost use Rattle.std.specs.Prelude.{◌≡◌, [], ◌+◌, ◌*◌, ◌≤◌, ◌++◌, length, OnOk, OnErr};
+ghost use Rattle.std.specs.Counts.{IsPrefixLen};
 ghost use Rattle.arrayvec.specs.ArrayString.{array_string_len};
 ghost use Rattle.reply.specs.Printed.{printed_length, handed, printed_refusal, printed};
 ghost use Rattle.reply.specs.Inside.{refused_by};
@@ -73,6 +74,7 @@ pub fn ask(sheet: &[u8], question: Question, out: &mut [u8]) -> Printed
     ensures size { result.length ≡ printed_length 65536 (ask_text sheet.now question) out.old }
     ensures hands { handed result.refused ≡ printed_refusal 65536 (ask_refusal sheet.now question) out.old }
     ensures writes { out.new ≡ printed 65536 (ask_text sheet.now question) out.old }
+    ensures within { IsPrefixLen result.length out.new }
 {
     let mut text = ArrayString::new();
     let refused = put_answer(&mut text, sheet, question).err();

@@ -2,6 +2,7 @@
 #![tactic(auto)]
 
 ghost use Rattle.std.specs.Prelude.{◌≡◌, ◌+◌, ◌≤◌, ◌++◌, length};
+ghost use Rattle.std.specs.Counts.{IsPrefixLen};
 ghost use Rattle.arrayvec.specs.ArrayString.{array_string_len};
 ghost use Rattle.reply.specs.Printed.{printed_length, printed};
 ghost use Rattle.explain.specs.Words.{reason, place, refused_words, explanation};
@@ -75,6 +76,7 @@ pub fn explain(program: &[u8], refusal: Refusal, out: &mut [u8]) -> usize
         (explanation program.now refusal) out.old }
     ensures writes { out.new ≡ printed (length program.now + 256)
         (explanation program.now refusal) out.old }
+    ensures within { IsPrefixLen result out.new }
 {
     let Some((front, rest)) = out.split_at_mut_checked(program.len()) else {
         return 0;

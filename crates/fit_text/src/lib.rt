@@ -2,6 +2,7 @@
 #![tactic(auto)]
 
 ghost use Rattle.std.specs.Prelude.{◌≡◌, [], ◌+◌, ◌≤◌, ◌<◌, ◌++◌};
+ghost use Rattle.std.specs.Counts.{IsPrefixLen};
 ghost use Rattle.arrayvec.specs.ArrayString.{array_string_len};
 ghost use Rattle.reply.specs.Printed.{printed_length, handed, printed_refusal, printed};
 ghost use Rattle.sheet.specs.Format.{decode};
@@ -69,6 +70,7 @@ pub fn fit(sheet: &[u8], out: &mut [u8]) -> Printed
     ensures size { result.length ≡ printed_length 512 (fit_text sheet.now) out.old }
     ensures hands { handed result.refused ≡ printed_refusal 512 (refusal_of sheet.now) out.old }
     ensures writes { out.new ≡ printed 512 (fit_text sheet.now) out.old }
+    ensures within { IsPrefixLen result.length out.new }
 {
     let mut text = ArrayString::new();
     let accepted = rules::accept(sheet);

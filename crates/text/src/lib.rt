@@ -5,6 +5,7 @@
 mod reading;
 
 ghost use Rattle.std.specs.Prelude.{◌≡◌, ◌+◌, ◌*◌, ◌≤◌, ◌++◌, length};
+ghost use Rattle.std.specs.Counts.{IsPrefixLen};
 ghost use Rattle.arrayvec.specs.ArrayString.{array_string_len};
 ghost use Rattle.reply.specs.Printed.{handed, printed_length, printed_refusal, printed};
 ghost use Rattle.reply.specs.Reply.{refusal_for};
@@ -69,6 +70,7 @@ pub fn print<const CAP: usize>(
     ensures size { result.length ≡ printed_length CAP text.now.bytes out.old }
     ensures hands { handed result.refused ≡ printed_refusal CAP (handed refused) out.old }
     ensures writes { out.new ≡ printed CAP text.now.bytes out.old }
+    ensures within { IsPrefixLen result.length out.new }
 {
     let bytes = text.as_str().as_bytes();
     if out.len() < CAP {
