@@ -26,12 +26,12 @@ pub struct MaskedSheet<'a> {
 }
 
 impl<'a> MaskedSheet<'a> {
-    // Marks the machines of a sheet.
+    // The sheet with its masks.
     pub fn new(sheet: Sheet<'a>) -> Self
         ensures { result.sheet.bytes.now ≡ sheet.entry.bytes.now }
     {
         let mut masks = [[0; HYPERPERIOD_MASKS]; 8];
-        mark(&sheet, &mut masks);
+        mark_machines(&sheet, &mut masks);
         let lowest = lowest_of(&masks, sheet.machines, sheet.hyperperiod as usize);
         MaskedSheet {
             sheet,
@@ -41,23 +41,21 @@ impl<'a> MaskedSheet<'a> {
     }
 }
 
-// The masks of a sheet's machines.
-fn mark(sheet: &Sheet<'_>, masks: &mut [Masks; 8])
+// Marks the machines of a sheet.
+fn mark_machines(sheet: &Sheet<'_>, masks: &mut [Masks; 8])
     ensures { Masked sheet.now.bytes.now masks.new }
 {
     for j in 0..sheet.machines {
-        masks[j] = machine_masks(&sheet.machine(j), sheet.hyperperiod as usize);
+        mark_machine(&sheet.machine(j), sheet.hyperperiod as usize, &mut masks[j]);
     }
 }
 
-// And of one machine, for the ticks below h.
-fn machine_masks(machine: &Machine<'_>, h: usize) -> Masks
+// And one machine, at the ticks below h.
+fn mark_machine(machine: &Machine<'_>, h: usize, masks: &mut Masks)
     requires { h ≤ longest_hyperperiod }
-    ensures { MachineMasked (meant machine.now) h result }
+    ensures { MachineMasked (meant machine.now) h masks.new }
 {
-    let mut masks = [0; HYPERPERIOD_MASKS];
     walk::mark_ticks(machine, 0, &mut masks[..h]);
-    masks
 }
 
 // The lowest machine with an instant at each tick below h.

@@ -3,7 +3,7 @@ use Rattle.model.specs.Machine.{machine_of, hyperperiod}
 use Rattle.sheet.specs.Format.{decode}
 use Rattle.walk.specs.Inside.{Marks}
 use Rattle.level.specs.Masked.{mask_at}
-use Rattle.level.proofs.masked.mark.Given as goal
+use Rattle.level.proofs.masked.mark_machines.Given as goal
 
 abbrev pub invariant-loop-j : goal.invariant-loop-j
 invariant-loop-j l =
