@@ -9,7 +9,7 @@ use native.Mathlib.Decide.{ℕ_discrete}
 use lib.ListN.{length, set, length-set}
 use lib.Seq.{get_or-set_same, get_or-set_other}
 use Rattle.model.specs.Limits.{longest_window}
-use Rattle.model.specs.Machine.{machine_of}
+use Rattle.model.specs.Machine.{Machine, machine_of}
 use Rattle.model.specs.Reckon.{request}
 use Rattle.model.specs.Inside.{largest_cost}
 use Rattle.model.specs.Verdict.{added, requests}
@@ -18,7 +18,7 @@ use Rattle.model.proofs.Bounds.{request_limit}
 use Rattle.sheet.specs.Format.{machine_count, decode}
 use Rattle.sheet.specs.Inside.{Accepted}
 use Rattle.sheet.specs.Meant.{machine_meant}
-use Rattle.sheet.proofs.Entries.{few_machines, machine_sizes}
+use Rattle.sheet.proofs.Entries.{machine_sizes}
 use Rattle.walk.specs.declared.LastInstant.{LastInstant}
 use Rattle.walk.specs.Inside.{Marks, Last}
 use Rattle.walk.proofs.Front.{last_none, last_instant}
@@ -26,22 +26,22 @@ use Rattle.level.specs.declared.Progress.{Progress}
 use Rattle.level.specs.declared.Level.{Level}
 use Rattle.level.specs.declared.masked.MaskedSheet.{MaskedSheet}
 use Rattle.level.specs.Masked.{mask_at}
-use Rattle.level.specs.Inside.{ProgressAt, Standing, Moved, blank, progress_of, PlacedAt}
-use Rattle.level.proofs.Phases.{phase_marks}
+use Rattle.level.specs.Inside.{ProgressAt, Standing, Moved, blank, progress_of, machines_of, PlacedAt}
+use Rattle.level.proofs.Phases.{few, phase_marks}
 use Rattle.level.specs.Inside.{LevelStands, LevelMoved}
 
 -- with the request bounds of the machines before j added
-pub record HalfAt (b : List ℕ) (i s n j : ℕ) (progress : List Progress) (above : ℕ) : Type 0 where
+pub record HalfAt (ms : List Machine) (i s n j : ℕ) (progress : List Progress) (above : ℕ) : Type 0 where
   pub long : length progress ≡ 8
-  pub moved : (k : ℕ) → k < j → ProgressAt (machine_of (decode b) k) s (n + 1) (progress_of progress k)
-  pub stands : (k : ℕ) → j ≤ k → k ≤ i → ProgressAt (machine_of (decode b) k) s n (progress_of progress k)
-  pub sum : above ≡ requests (decode b) j s (n + 1)
+  pub moved : (k : ℕ) → k < j → ProgressAt (machine_of ms k) s (n + 1) (progress_of progress k)
+  pub stands : (k : ℕ) → j ≤ k → k ≤ i → ProgressAt (machine_of ms k) s n (progress_of progress k)
+  pub sum : above ≡ requests ms j s (n + 1)
 
 -- of the rest of the level nothing has changed
-pub record Walking (b : List ℕ) (old : Level) (j : ℕ) (new : Level) (above : ℕ) : Type 0 where
-  pub placed : PlacedAt b old.machine old.start old.ticks new
+pub record Walking (masked : MaskedSheet) (old : Level) (j : ℕ) (new : Level) (above : ℕ) : Type 0 where
+  pub placed : PlacedAt masked old.machine old.start old.ticks new
   pub last : new.last ≡ old.last
-  pub half : HalfAt b old.machine old.start old.ticks j new.progress above
+  pub half : HalfAt (machines_of masked) old.machine old.start old.ticks j new.progress above
 
 -- the request of a machine, and of a few machines, over a window that is in range
 abbrev pub largest_request : ℕ
@@ -61,9 +61,9 @@ module _ {b : List ℕ} (accepted : Accepted b) where
   requests_small (suc i) s n l h =
       omega (arith, requests_small i s n (omega arith) h, request_small i s n (omega arith) h)
 
-placed_kept : {b : List ℕ} {i s n above own : ℕ} {level : Level} {progress : List Progress} {last : LastInstant}
-    → PlacedAt b i s n level
-    → PlacedAt b i s n
+placed_kept : {masked : MaskedSheet} {i s n above own : ℕ} {level : Level} {progress : List Progress} {last : LastInstant}
+    → PlacedAt masked i s n level
+    → PlacedAt masked i s n
     (record {
       machine = level.machine;
       start = level.start;
@@ -76,7 +76,7 @@ placed_kept : {b : List ℕ} {i s n above own : ℕ} {level : Level} {progress :
     })
 placed_kept h = record { known = h.known; machine = h.machine; start = h.start; ticks = h.ticks; near = h.near; phase = h.phase }
 
-pub walking_begin : {b : List ℕ} {level : Level} → LevelStands b level → Walking b level 0 level 0
+pub walking_begin : {masked : MaskedSheet} {level : Level} → LevelStands masked level → Walking masked level 0 level 0
 unfolding added
 walking_begin h =
     record {
@@ -92,26 +92,23 @@ walking_begin h =
     }
 
 -- at the end of the loop over the machines above
-pub walking_last : {b : List ℕ} {old at : Level} {j above : ℕ} → Walking b old j at above → j ≤ old.machine
-    → old.machine ≤ j → Walking b old old.machine at above
+pub walking_last : {masked : MaskedSheet} {old at : Level} {j above : ℕ} → Walking masked old j at above → j ≤ old.machine
+    → old.machine ≤ j → Walking masked old old.machine at above
 walking_last h l u = rw (le_antisymm l u) at h
 
-module _ (sheet : MaskedSheet) {old at : Level} {j above : ℕ}
-    (ready : LevelStands sheet.sheet.bytes.now old × (old.ticks < longest_window))
-    (walking : Walking sheet.sheet.bytes.now old j at above) (l : j ≤ old.machine) where
-  known : old.machine < machine_count sheet.sheet.bytes.now
+module _ (masked : MaskedSheet) {old at : Level} {j above : ℕ}
+    (ready : LevelStands masked old × (old.ticks < longest_window))
+    (walking : Walking masked old j at above) (l : j ≤ old.machine) where
+  known : old.machine < masked.sheet.machines
   known = ready.0.placed.known
 
-  few : old.machine < 8
-  few = omega (arith, known, (few_machines sheet.sheet.counted.accepted).1)
+  marks : Marks (machine_meant masked.sheet j) (old.start + old.ticks) (mask_at masked.masks j old.phase)
+  marks = phase_marks masked _ ready.0.placed.phase j (omega (arith, known))
 
-  marks : Marks (machine_meant sheet.sheet j) (old.start + old.ticks) (mask_at sheet.masks j old.phase)
-  marks = phase_marks sheet _ ready.0.placed.phase j (omega (arith, known))
-
-  pub walking_ready : (j < sheet.sheet.machines)
-      × Standing (machine_meant sheet.sheet j) (mask_at sheet.masks j old.phase) (progress_of at.progress j)
+  pub walking_ready : (j < masked.sheet.machines)
+      × Standing (machine_meant masked.sheet j) (mask_at masked.masks j old.phase) (progress_of at.progress j)
   walking_ready = (
-    omega (arith, known, sheet.sheet.counted.count),
+    omega (arith, known),
     record {
       start = old.start;
       ticks = old.ticks;
@@ -122,25 +119,25 @@ module _ (sheet : MaskedSheet) {old at : Level} {j above : ℕ}
   )
 
   module _ {new : Progress}
-      (moved : Moved (machine_meant sheet.sheet j) (mask_at sheet.masks j old.phase) (progress_of at.progress j) new) where
-    moved_on : ProgressAt (machine_meant sheet.sheet j) old.start (old.ticks + 1) new
+      (moved : Moved (machine_meant masked.sheet j) (mask_at masked.masks j old.phase) (progress_of at.progress j) new) where
+    moved_on : ProgressAt (machine_meant masked.sheet j) old.start (old.ticks + 1) new
     moved_on = moved.on old.start old.ticks marks (walking.half.stands j (omega arith) l)
 
     pub walking_small : above + new.top ≤ 8 * largest_request
     walking_small =
-        let accepted = sheet.sheet.counted.accepted in
+        let accepted = masked.sheet.counted.accepted in
         let n : old.ticks + 1 ≤ longest_window = omega (arith, ready.1) in
-        let i : j < machine_count sheet.sheet.bytes.now = omega (arith, known) in
+        let i : j < machine_count masked.sheet.bytes.now = omega (arith, known, masked.sheet.counted.count) in
         omega (
           arith,
           walking.half.sum,
           requests_small accepted j old.start (old.ticks + 1) (omega arith) n,
           moved_on.top,
           request_small accepted j old.start (old.ticks + 1) i n,
-          few,
+          few masked known,
         )
 
-    half_more : HalfAt sheet.sheet.bytes.now old.machine old.start old.ticks (j + 1) (set at.progress j new)
+    half_more : HalfAt (machines_of masked) old.machine old.start old.ticks (j + 1) (set at.progress j new)
         (above + new.top)
     unfolding added
     half_more =
@@ -150,7 +147,7 @@ module _ (sheet : MaskedSheet) {old at : Level} {j above : ℕ}
           moved = λ k u.
               elim (ℕ_discrete k j) [
                 | yes e ↦
-                    rw (e, get_or-set_same at.progress j new blank (omega (arith, half.long, few))) moved_on
+                    rw (e, get_or-set_same at.progress j new blank (omega (arith, half.long, few masked known))) moved_on
                 | no d ↦ rw (get_or-set_other at.progress j k new blank d) (half.moved k (omega arith))
               ];
           stands = λ k u v.
@@ -158,7 +155,7 @@ module _ (sheet : MaskedSheet) {old at : Level} {j above : ℕ}
           sum = rw (add-one j) (ap₂ ◌+◌ half.sum moved_on.top);
         }
 
-    pub walking_more : Walking sheet.sheet.bytes.now old (j + 1)
+    pub walking_more : Walking masked old (j + 1)
         (record {
           machine = at.machine;
           start = at.start;
@@ -173,14 +170,14 @@ module _ (sheet : MaskedSheet) {old at : Level} {j above : ℕ}
     walking_more = record { placed = placed_kept walking.placed; last = walking.last; half = half_more }
 
 -- when its own machine has moved, the tick is done; its instant, if it has one, is the last so far
-module _ (sheet : MaskedSheet) {old at : Level} {above : ℕ}
-    (ready : LevelStands sheet.sheet.bytes.now old × (old.ticks < longest_window))
-    (walking : Walking sheet.sheet.bytes.now old old.machine at above) {own : Progress}
-    (moved : Moved (machine_meant sheet.sheet old.machine) (mask_at sheet.masks old.machine old.phase)
+module _ (masked : MaskedSheet) {old at : Level} {above : ℕ}
+    (ready : LevelStands masked old × (old.ticks < longest_window))
+    (walking : Walking masked old old.machine at above) {own : Progress}
+    (moved : Moved (machine_meant masked.sheet old.machine) (mask_at masked.masks old.machine old.phase)
     (progress_of at.progress old.machine) own) where
   ended : {last : LastInstant}
-      → Last (machine_meant sheet.sheet old.machine) old.start (old.ticks + 1) last
-      → LevelMoved sheet.sheet.bytes.now old
+      → Last (machine_meant masked.sheet old.machine) old.start (old.ticks + 1) last
+      → LevelMoved masked old
       (record {
         machine = at.machine;
         start = at.start;
@@ -193,20 +190,20 @@ module _ (sheet : MaskedSheet) {old at : Level} {above : ℕ}
       })
   ended last =
       let l : old.machine ≤ old.machine = omega arith in
-      let all = half_more sheet ready walking l moved in
+      let all = half_more masked ready walking l moved in
       record {
         placed = placed_kept walking.placed;
         figures =
             record {
               progress = record { long = all.long; at = λ j u. all.moved j (omega arith) };
               above = walking.half.sum;
-              own = (moved_on sheet ready walking l moved).top;
+              own = (moved_on masked ready walking l moved).top;
               last = last;
             };
       }
 
-  pub ended_idle : mask_at sheet.masks old.machine old.phase ≡ 0
-      → LevelMoved sheet.sheet.bytes.now old
+  pub ended_idle : mask_at masked.masks old.machine old.phase ≡ 0
+      → LevelMoved masked old
       (record {
         machine = at.machine;
         start = at.start;
@@ -218,10 +215,10 @@ module _ (sheet : MaskedSheet) {old at : Level} {above : ℕ}
         last = at.last;
       })
   ended_idle e =
-      ended (rw walking.last (last_none ready.0.figures.last (marks sheet ready walking (omega arith)) e))
+      ended (rw walking.last (last_none ready.0.figures.last (marks masked ready walking (omega arith)) e))
 
-  pub ended_instant : (mask_at sheet.masks old.machine old.phase ≡ 0 → ⊥)
-      → LevelMoved sheet.sheet.bytes.now old
+  pub ended_instant : (mask_at masked.masks old.machine old.phase ≡ 0 → ⊥)
+      → LevelMoved masked old
       (record {
         machine = at.machine;
         start = at.start;
@@ -233,10 +230,10 @@ module _ (sheet : MaskedSheet) {old at : Level} {above : ℕ}
         last =
             record {
               ticks = at.ticks;
-              mask = mask_at sheet.masks old.machine old.phase;
+              mask = mask_at masked.masks old.machine old.phase;
               row = (progress_of at.progress old.machine).row;
             };
       })
   ended_instant d =
       let row = (walking.half.stands old.machine (omega arith) (omega arith)).row in
-      ended (rw walking.placed.ticks (last_instant (marks sheet ready walking (omega arith)) d row))
+      ended (rw walking.placed.ticks (last_instant (marks masked ready walking (omega arith)) d row))

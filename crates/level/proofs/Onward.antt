@@ -5,23 +5,21 @@ use native.Mathlib.Omega.{arith}
 use native.Mathlib.Nat.{mod-eq_of_lt, mod-add-mod, add-zero}
 use lib.ListN.{get_or, replicate, get_or-replicate}
 use Rattle.model.specs.Limits.{longest_window}
-use Rattle.model.specs.Machine.{Machine, machine_of, hyperperiod}
-use Rattle.model.specs.Sizes.{MachineSizes}
+use Rattle.model.specs.Machine.{Machine}
 use Rattle.model.specs.Reckon.{request, demand}
 use Rattle.model.specs.Verdict.{added, requests}
 use Rattle.model.proofs.Bounds.{request_empty}
 use Rattle.model.proofs.Added.{added_cong}
-use Rattle.sheet.specs.Format.{machine_count, decode}
-use Rattle.sheet.proofs.Entries.{few_machines, machine_sizes}
+use Rattle.sheet.specs.Meant.{machine_meant}
 use Rattle.walk.specs.Inside.{Marks, Ready, DueWithin}
 use Rattle.walk.proofs.Front.{row_zeros, last_begin, last_none, last_ready, last_demand}
 use Rattle.level.specs.declared.Progress.{Progress}
 use Rattle.level.specs.declared.Level.{Level}
 use Rattle.level.specs.declared.masked.MaskedSheet.{MaskedSheet}
 use Rattle.level.specs.Masked.{mask_at}
-use Rattle.level.specs.Inside.{ProgressAt, progress_of, LevelAt, LevelStands, LevelMoved, LevelOnward}
-use Rattle.level.proofs.Phases.{phase_inside, phase_marks}
-use Rattle.level.proofs.Moving.{moved_not}
+use Rattle.level.specs.Inside.{ProgressAt, progress_of, machines_of, LevelAt, LevelStands, LevelMoved, LevelOnward}
+use Rattle.level.proofs.Phases.{few, phase_inside, phase_marks}
+use Rattle.level.proofs.Moving.{sheet_sizes, moved_not}
 
 -- a machine's progress before the first tick
 abbrev pub nothing : Progress
@@ -29,7 +27,7 @@ nothing = record { row = replicate 16 0; top = 0 }
 
 -- a level before the first tick
 abbrev pub begun : MaskedSheet → ℕ → ℕ → Level
-begun sheet i s =
+begun masked i s =
     record {
       machine = i;
       start = s;
@@ -38,7 +36,7 @@ begun sheet i s =
       progress = replicate 8 nothing;
       above = 0;
       own = 0;
-      last = record { ticks = 0; mask = mask_at sheet.masks i s; row = replicate 16 0 };
+      last = record { ticks = 0; mask = mask_at masked.masks i s; row = replicate 16 0 };
     }
 
 -- after a tick
@@ -55,12 +53,9 @@ onward at phase =
       last = at.last;
     }
 
-module _ (sheet : MaskedSheet) where
-  sizes : (j : ℕ) → j < machine_count sheet.sheet.bytes.now → MachineSizes (machine_of (decode sheet.sheet.bytes.now) j)
-  sizes = machine_sizes sheet.sheet.counted.accepted
-
-  pub begun_at : (i s : ℕ) → i < machine_count sheet.sheet.bytes.now → s < hyperperiod (decode sheet.sheet.bytes.now)
-      → LevelAt sheet.sheet.bytes.now i s 0 (begun sheet i s)
+module _ (masked : MaskedSheet) where
+  pub begun_at : (i s : ℕ) → i < masked.sheet.machines → s < masked.sheet.hyperperiod
+      → LevelAt masked i s 0 (begun masked i s)
   unfolding added
   begun_at i s known l =
       record {
@@ -71,37 +66,36 @@ module _ (sheet : MaskedSheet) where
                   record {
                     long = refl;
                     at = λ j u.
-                        rw (get_or-replicate 8 j nothing _ (omega (arith, known, (few_machines sheet.sheet.counted.accepted).1)))
+                        rw (get_or-replicate 8 j nothing _ (omega (arith, few masked known)))
                         (progress_nothing j (omega (arith, known)));
                   };
               above = sym (requests_nothing i);
-              own = sym (request_empty (machine_of (decode sheet.sheet.bytes.now) i) s);
-              last = last_begin (phase_marks sheet (s + 0) phase i known) (row_zeros (sizes i known) s);
+              own = sym (request_empty (machine_meant masked.sheet i) s);
+              last = last_begin (phase_marks masked (s + 0) phase i known) (row_zeros (sheet_sizes masked.sheet i known) s);
             };
       }
     where
-      phase : s ≡ (s + 0) % hyperperiod (decode sheet.sheet.bytes.now)
+      phase : s ≡ (s + 0) % masked.sheet.hyperperiod
       phase = rw (add-zero s) (sym (mod-eq_of_lt l))
 
-      progress_nothing : (j : ℕ) → j < machine_count sheet.sheet.bytes.now
-          → ProgressAt (machine_of (decode sheet.sheet.bytes.now) j) s 0 nothing
+      progress_nothing : (j : ℕ) → j < masked.sheet.machines
+          → ProgressAt (machine_meant masked.sheet j) s 0 nothing
       progress_nothing j k =
           record {
-            row = row_zeros (sizes j k) s;
-            top = sym (request_empty (machine_of (decode sheet.sheet.bytes.now) j) s);
+            row = row_zeros (sheet_sizes masked.sheet j k) s;
+            top = sym (request_empty (machine_meant masked.sheet j) s);
           }
 
-      requests_nothing : (j : ℕ) → requests (decode sheet.sheet.bytes.now) j s 0 ≡ 0
+      requests_nothing : (j : ℕ) → requests (machines_of masked) j s 0 ≡ 0
       requests_nothing zero = refl
       requests_nothing (suc j) =
-          omega (arith, requests_nothing j, request_empty (machine_of (decode sheet.sheet.bytes.now) j) s)
+          omega (arith, requests_nothing j, request_empty (machine_meant masked.sheet j) s)
 
   -- a tick at which no machine of the level has an instant leaves the figures as they are
-  pub stands_idle : {level : Level} → LevelStands sheet.sheet.bytes.now level
-      → level.machine < get_or sheet.lowest level.phase 0
-      → LevelMoved sheet.sheet.bytes.now level level
+  pub stands_idle : {level : Level} → LevelStands masked level
+      → level.machine < get_or masked.lowest level.phase 0
+      → LevelMoved masked level level
   stands_idle {level} h l =
-      let b = sheet.sheet.bytes.now in
       let figures = h.figures in
       record {
         placed = h.placed;
@@ -114,42 +108,42 @@ module _ (sheet : MaskedSheet) where
             };
       }
     where
-      here : (j : ℕ) → j < machine_count sheet.sheet.bytes.now
-          → Marks (machine_of (decode sheet.sheet.bytes.now) j) (level.start + level.ticks)
-          (mask_at sheet.masks j level.phase)
-      here = phase_marks sheet (level.start + level.ticks) h.placed.phase
+      here : (j : ℕ) → j < masked.sheet.machines
+          → Marks (machine_meant masked.sheet j) (level.start + level.ticks)
+          (mask_at masked.masks j level.phase)
+      here = phase_marks masked (level.start + level.ticks) h.placed.phase
 
-      quiet : (j : ℕ) → j ≤ level.machine → mask_at sheet.masks j level.phase ≡ 0
+      quiet : (j : ℕ) → j ≤ level.machine → mask_at masked.masks j level.phase ≡ 0
       quiet j u =
-          (sheet.lowered.at level.phase (phase_inside sheet (level.start + level.ticks) h.placed.phase)).before j
+          (masked.lowered.at level.phase (phase_inside masked (level.start + level.ticks) h.placed.phase)).before j
           (omega arith)
 
       progress : (j : ℕ) → j ≤ level.machine
-          → ProgressAt (machine_of (decode sheet.sheet.bytes.now) j) level.start (level.ticks + 1)
+          → ProgressAt (machine_meant masked.sheet j) level.start (level.ticks + 1)
           (progress_of level.progress j)
       progress j u =
-          let known : j < machine_count sheet.sheet.bytes.now = omega (arith, h.placed.known) in
-          (moved_not (sizes j known) (quiet j u)).on level.start level.ticks (here j known) (h.figures.progress.at j u)
+          let known : j < masked.sheet.machines = omega (arith, h.placed.known) in
+          (moved_not (sheet_sizes masked.sheet j known) (quiet j u)).on level.start level.ticks (here j known) (h.figures.progress.at j u)
 
       request_idle : (j : ℕ) → j ≤ level.machine
-          → request (machine_of (decode sheet.sheet.bytes.now) j) level.start level.ticks
-          ≡ request (machine_of (decode sheet.sheet.bytes.now) j) level.start (level.ticks + 1)
+          → request (machine_meant masked.sheet j) level.start level.ticks
+          ≡ request (machine_meant masked.sheet j) level.start (level.ticks + 1)
       request_idle j u = sym (h.figures.progress.at j u).top ∙ (progress j u).top
 
       requests_idle : (j : ℕ) → j ≤ level.machine
-          → requests (decode sheet.sheet.bytes.now) j level.start level.ticks
-          ≡ requests (decode sheet.sheet.bytes.now) j level.start (level.ticks + 1)
+          → requests (machines_of masked) j level.start level.ticks
+          ≡ requests (machines_of masked) j level.start (level.ticks + 1)
       requests_idle j u =
-          added_cong j (λ k. request (machine_of (decode sheet.sheet.bytes.now) k) level.start level.ticks)
-          (λ k. request (machine_of (decode sheet.sheet.bytes.now) k) level.start (level.ticks + 1))
+          added_cong j (λ k. request (machine_meant masked.sheet k) level.start level.ticks)
+          (λ k. request (machine_meant masked.sheet k) level.start (level.ticks + 1))
           (λ k c. request_idle k (omega arith))
 
   -- and then the tick is done
-  pub moved_onward : {old at : Level} {phase : ℕ} → LevelMoved sheet.sheet.bytes.now old at → old.ticks < longest_window
-      → phase ≡ (at.phase + 1) % sheet.sheet.hyperperiod
-      → LevelOnward sheet.sheet.bytes.now old (onward at phase)
+  pub moved_onward : {old at : Level} {phase : ℕ} → LevelMoved masked old at → old.ticks < longest_window
+      → phase ≡ (at.phase + 1) % masked.sheet.hyperperiod
+      → LevelOnward masked old (onward at phase)
   moved_onward {old} {at} {phase} h l e =
-      let H = hyperperiod (decode sheet.sheet.bytes.now) in
+      let H = masked.sheet.hyperperiod in
       record {
         placed =
             record {
@@ -160,7 +154,6 @@ module _ (sheet : MaskedSheet) where
               near = omega arith;
               phase =
                   e
-                  ∙ ap (λ n. (at.phase + 1) % n) sheet.sheet.counted.period
                   ∙ ap (λ n. (n + 1) % H) h.placed.phase
                   ∙ mod-add-mod (old.start + old.ticks) H 1
                   ∙ ap (λ n. n % H) (omega arith);
@@ -175,16 +168,16 @@ module _ (sheet : MaskedSheet) where
       }
 
   -- of its machine, what is due
-  module _ {level : Level} (h : LevelStands sheet.sheet.bytes.now level) {m : Machine}
-      (e : m ≡ machine_of (decode sheet.sheet.bytes.now) level.machine) where
+  module _ {level : Level} (h : LevelStands masked level) {m : Machine}
+      (e : m ≡ machine_meant masked.sheet level.machine) where
     pub stands_ready : Ready m level.last.mask level.last.row
     stands_ready =
         rw e
-        (last_ready h.figures.last (sizes level.machine h.placed.known)
+        (last_ready h.figures.last (sheet_sizes masked.sheet level.machine h.placed.known)
         (omega (arith, h.figures.last.is.early, h.placed.near)))
 
     pub stands_demand : {v : ℕ} → DueWithin m level.last.mask level.last.row (level.ticks - level.last.ticks) v
-        → v ≡ demand (machine_of (decode sheet.sheet.bytes.now) level.machine) level.start level.ticks
+        → v ≡ demand (machine_meant masked.sheet level.machine) level.start level.ticks
     stands_demand due =
-        last_demand h.figures.last (sizes level.machine h.placed.known) (omega (arith, h.figures.last.is.early))
+        last_demand h.figures.last (sheet_sizes masked.sheet level.machine h.placed.known) (omega (arith, h.figures.last.is.early))
         (rw e at due)

@@ -6,10 +6,10 @@ use native.Mathlib.Omega.{arith}
 use native.Mathlib.Nat.{mod-lt}
 use lib.ListN.{length, take, length-take}
 use Rattle.std.proofs.Common.{get_or-take}
-use Rattle.model.specs.Limits.{longest_hyperperiod}
-use Rattle.model.specs.Machine.{machine_of, hyperperiod}
 use Rattle.model.proofs.Accepted.{sizes_repeat}
-use Rattle.sheet.specs.Format.{machine_count, decode}
+use Rattle.sheet.specs.Format.{decode}
+use Rattle.sheet.specs.Meant.{machine_meant}
+use Rattle.sheet.proofs.Entries.{few_machines}
 use Rattle.walk.specs.Inside.{Marks}
 use Rattle.walk.proofs.Mask.{marks_remainder}
 use Rattle.level.specs.declared.masked.MaskedSheet.{MaskedSheet}
@@ -24,22 +24,22 @@ idle_front {masks} {t} {k} n h l =
           rw (get_or-take n masks j [] (omega (arith, length-take n masks))) at (h.before j b);
     }
 
-module _ (sheet : MaskedSheet) where
-  pub period_positive : 0 < sheet.sheet.hyperperiod
-  period_positive = omega (arith, sheet.sheet.counted.period, sheet.sheet.counted.accepted.hyperperiod.0)
+module _ (masked : MaskedSheet) where
+  pub few : {i : ℕ} → i < masked.sheet.machines → i < 8
+  few known = omega (arith, known, masked.sheet.counted.count, (few_machines masked.sheet.counted.accepted).1)
 
-  pub period_short : sheet.sheet.hyperperiod ≤ longest_hyperperiod
-  period_short = omega (arith, sheet.sheet.counted.period, sheet.sheet.counted.accepted.hyperperiod.1)
+  period_positive : 0 < masked.sheet.hyperperiod
+  period_positive = omega (arith, masked.sheet.counted.period, masked.sheet.counted.accepted.hyperperiod.0)
 
-  pub phase_inside : {phase : ℕ} (t : ℕ) → phase ≡ t % hyperperiod (decode sheet.sheet.bytes.now)
-      → phase < sheet.sheet.hyperperiod
-  phase_inside t e = rw (e, ← sheet.sheet.counted.period) (mod-lt t period_positive)
+  pub phase_inside : {phase : ℕ} (t : ℕ) → phase ≡ t % masked.sheet.hyperperiod → phase < masked.sheet.hyperperiod
+  phase_inside t e = rw e (mod-lt t period_positive)
 
   -- the masks at the phase of a tick mark it
-  pub phase_marks : {phase : ℕ} (t : ℕ) → phase ≡ t % hyperperiod (decode sheet.sheet.bytes.now)
-      → (j : ℕ) → j < machine_count sheet.sheet.bytes.now
-      → Marks (machine_of (decode sheet.sheet.bytes.now) j) t (mask_at sheet.masks j phase)
+  pub phase_marks : {phase : ℕ} (t : ℕ) → phase ≡ t % masked.sheet.hyperperiod → (j : ℕ) → j < masked.sheet.machines
+      → Marks (machine_meant masked.sheet j) t (mask_at masked.masks j phase)
   phase_marks {phase} t e j l =
-      marks_remainder (hyperperiod (decode sheet.sheet.bytes.now))
-      (sizes_repeat (decode sheet.sheet.bytes.now) sheet.sheet.counted.accepted.sizes j)
-      (rw (← e) (sheet.masked.at j phase l (omega (arith, phase_inside t e, sheet.sheet.counted.period))))
+      let counted = masked.sheet.counted in
+      marks_remainder masked.sheet.hyperperiod
+      (rw counted.period (sizes_repeat (decode masked.sheet.bytes.now) counted.accepted.sizes j))
+      (rw (← e)
+      (masked.marked.at j phase (omega (arith, counted.count)) (omega (arith, phase_inside t e, counted.period))))

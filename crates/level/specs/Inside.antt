@@ -1,15 +1,16 @@
 -- What the contracts of inner functions cite, and no reader has to believe.
 use Rattle.std.specs.Prelude.{ℕ, ◌+◌, ◌%◌, ◌≤◌, ◌<◌, ◌≡◌, List, [], length, get_or}
 use Rattle.model.specs.Limits.{longest_window}
-use Rattle.model.specs.Machine.{Machine, machine_of, hyperperiod}
+use Rattle.model.specs.Machine.{Machine, machine_of}
 use Rattle.model.specs.Legal.{requested}
 use Rattle.model.specs.Reckon.{request}
 use Rattle.model.specs.Inside.{IsRow}
 use Rattle.model.specs.Verdict.{requests}
-use Rattle.sheet.specs.Format.{machine_count, decode}
+use Rattle.sheet.specs.Format.{decode}
 use Rattle.walk.specs.Inside.{Marks, Last}
 use Rattle.level.specs.declared.Progress.{Progress}
 use Rattle.level.specs.declared.Level.{Level}
+use Rattle.level.specs.declared.masked.MaskedSheet.{MaskedSheet}
 
 -- the progress has the machine's row and request bound for [s, s + n)
 pub record ProgressAt (m : Machine) (s n : ℕ) (progress : Progress) : Type 0 where
@@ -35,40 +36,44 @@ blank = record { row = []; top = 0 }
 abbrev pub progress_of : List Progress → ℕ → Progress
 progress_of progress j = get_or progress j blank
 
+-- a sheet's machines
+abbrev pub machines_of : MaskedSheet → List Machine
+machines_of masked = decode masked.sheet.bytes.now
+
 -- machines 0 to i have their progress for [s, s + n)
-pub record AllProgressAt (b : List ℕ) (i s n : ℕ) (progress : List Progress) : Type 0 where
+pub record AllProgressAt (ms : List Machine) (i s n : ℕ) (progress : List Progress) : Type 0 where
   pub long : length progress ≡ 8
-  pub at : (j : ℕ) → j ≤ i → ProgressAt (machine_of (decode b) j) s n (progress_of progress j)
+  pub at : (j : ℕ) → j ≤ i → ProgressAt (machine_of ms j) s n (progress_of progress j)
 
 -- the level has them, the request bounds above i added, i's own, and i's last instant before s + n
-pub record FiguresAt (b : List ℕ) (i s n : ℕ) (level : Level) : Type 0 where
-  pub progress : AllProgressAt b i s n level.progress
-  pub above : level.above ≡ requests (decode b) i s n
-  pub own : level.own ≡ request (machine_of (decode b) i) s n
-  pub last : Last (machine_of (decode b) i) s n level.last
+pub record FiguresAt (ms : List Machine) (i s n : ℕ) (level : Level) : Type 0 where
+  pub progress : AllProgressAt ms i s n level.progress
+  pub above : level.above ≡ requests ms i s n
+  pub own : level.own ≡ request (machine_of ms i) s n
+  pub last : Last (machine_of ms i) s n level.last
 
 -- the level of machine i stands n ticks from s, of which there are no more than a window has
-pub record PlacedAt (b : List ℕ) (i s n : ℕ) (level : Level) : Type 0 where
-  pub known : i < machine_count b
+pub record PlacedAt (masked : MaskedSheet) (i s n : ℕ) (level : Level) : Type 0 where
+  pub known : i < masked.sheet.machines
   pub machine : level.machine ≡ i
   pub start : level.start ≡ s
   pub ticks : level.ticks ≡ n
   pub near : n ≤ longest_window
-  pub phase : level.phase ≡ (s + n) % hyperperiod (decode b)
+  pub phase : level.phase ≡ (s + n) % masked.sheet.hyperperiod
 
-pub record LevelAt (b : List ℕ) (i s n : ℕ) (level : Level) : Type 0 where
-  pub placed : PlacedAt b i s n level
-  pub figures : FiguresAt b i s n level
+pub record LevelAt (masked : MaskedSheet) (i s n : ℕ) (level : Level) : Type 0 where
+  pub placed : PlacedAt masked i s n level
+  pub figures : FiguresAt (machines_of masked) i s n level
 
 -- the level stands where it says
-abbrev pub LevelStands : List ℕ → Level → Type 0
-LevelStands b level = LevelAt b level.machine level.start level.ticks level
+abbrev pub LevelStands : MaskedSheet → Level → Type 0
+LevelStands masked level = LevelAt masked level.machine level.start level.ticks level
 
 -- and has gone on by a tick
-abbrev pub LevelOnward : List ℕ → Level → Level → Type 0
-LevelOnward b old new = LevelAt b old.machine old.start (old.ticks + 1) new
+abbrev pub LevelOnward : MaskedSheet → Level → Level → Type 0
+LevelOnward masked old new = LevelAt masked old.machine old.start (old.ticks + 1) new
 
 -- its machines have moved on by a tick
-pub record LevelMoved (b : List ℕ) (old new : Level) : Type 0 where
-  pub placed : PlacedAt b old.machine old.start old.ticks new
-  pub figures : FiguresAt b old.machine old.start (old.ticks + 1) new
+pub record LevelMoved (masked : MaskedSheet) (old new : Level) : Type 0 where
+  pub placed : PlacedAt masked old.machine old.start old.ticks new
+  pub figures : FiguresAt (machines_of masked) old.machine old.start (old.ticks + 1) new

@@ -5,11 +5,10 @@ mod masked;
 
 ghost use Rattle.std.specs.Prelude.{◌≡◌, ◌+◌, ◌%◌, ◌≤◌, ◌<◌};
 ghost use Rattle.model.specs.Limits.{longest_window};
-ghost use Rattle.model.specs.Machine.{machine_of, hyperperiod};
+ghost use Rattle.model.specs.Machine.{machine_of};
 ghost use Rattle.model.specs.Reckon.{demand};
-ghost use Rattle.sheet.specs.Format.{machine_count, decode};
 ghost use Rattle.sheet.specs.Meant.{machine_meant};
-ghost use Rattle.level.specs.Inside.{Standing, Moved, LevelAt, LevelStands, LevelMoved, LevelOnward};
+ghost use Rattle.level.specs.Inside.{Standing, Moved, machines_of, LevelAt, LevelStands, LevelMoved, LevelOnward};
 
 pub use masked::MaskedSheet;
 use model::Way;
@@ -55,10 +54,9 @@ impl Progress {
 
 impl Level {
     // A machine's level before the first tick from a start.
-    pub fn begun(sheet: &MaskedSheet<'_>, machine: usize, start: u32) -> Self
-        requires { (machine < machine_count sheet.now.sheet.bytes.now)
-            × (start < hyperperiod (decode sheet.now.sheet.bytes.now)) }
-        ensures { LevelAt sheet.now.sheet.bytes.now machine start 0 result }
+    pub fn begun(masked: &MaskedSheet<'_>, machine: usize, start: u32) -> Self
+        requires { (machine < masked.now.sheet.machines) × (start < masked.now.sheet.hyperperiod) }
+        ensures { LevelAt masked.now machine start 0 result }
     {
         let row = [0; 16];
         let phase = start as usize;
@@ -72,39 +70,39 @@ impl Level {
             own: 0,
             last: LastInstant {
                 ticks: 0,
-                mask: sheet.masks[machine][phase],
+                mask: masked.masks[machine][phase],
                 row,
             },
         }
     }
 
     // Goes on by a tick.
-    pub fn tick(&mut self, sheet: &MaskedSheet<'_>)
-        requires { LevelStands sheet.now.sheet.bytes.now self.old × (self.old.ticks < longest_window) }
-        ensures { LevelOnward sheet.now.sheet.bytes.now self.old self.new }
+    pub fn tick(&mut self, masked: &MaskedSheet<'_>)
+        requires { LevelStands masked.now self.old × (self.old.ticks < longest_window) }
+        ensures { LevelOnward masked.now self.old self.new }
     {
-        if sheet.lowest[self.phase] as usize <= self.machine {
-            self.walk(sheet);
+        if masked.lowest[self.phase] as usize <= self.machine {
+            self.walk(masked);
         }
         self.ticks += 1;
-        self.phase = phase_after(self.phase, sheet.sheet.hyperperiod as usize);
+        self.phase = phase_after(self.phase, masked.sheet.hyperperiod as usize);
     }
 
     // Moves the machines on by a tick.
-    fn walk(&mut self, sheet: &MaskedSheet<'_>)
-        requires { LevelStands sheet.now.sheet.bytes.now self.old × (self.old.ticks < longest_window) }
-        ensures { LevelMoved sheet.now.sheet.bytes.now self.old self.new }
+    fn walk(&mut self, masked: &MaskedSheet<'_>)
+        requires { LevelStands masked.now self.old × (self.old.ticks < longest_window) }
+        ensures { LevelMoved masked.now self.old self.new }
     {
         let (machine, phase) = (self.machine, self.phase);
         let mut above = 0;
         for j in 0..machine {
-            let moved = self.progress[j].moved(&sheet.sheet, j, sheet.masks[j][phase]);
+            let moved = self.progress[j].moved(&masked.sheet, j, masked.masks[j][phase]);
             self.progress[j] = moved;
             above += moved.top;
         }
-        let mask = sheet.masks[machine][phase];
+        let mask = masked.masks[machine][phase];
         let before = self.progress[machine];
-        let own = before.moved(&sheet.sheet, machine, mask);
+        let own = before.moved(&masked.sheet, machine, mask);
         self.progress[machine] = own;
         self.above = above;
         self.own = own.top;
@@ -119,13 +117,13 @@ impl Level {
     }
 
     // The demand bound of its machine from the start to where it stands.
-    pub fn demand(&self, sheet: &MaskedSheet<'_>) -> u32
-        requires { LevelStands sheet.now.sheet.bytes.now self.now }
-        ensures { result ≡ demand (machine_of (decode sheet.now.sheet.bytes.now) self.now.machine) self.now.start
+    pub fn demand(&self, masked: &MaskedSheet<'_>) -> u32
+        requires { LevelStands masked.now self.now }
+        ensures { result ≡ demand (machine_of (machines_of masked.now) self.now.machine) self.now.start
             self.now.ticks }
     {
         walk::due_within(
-            &sheet.sheet.machine(self.machine),
+            &masked.sheet.machine(self.machine),
             &self.last,
             self.ticks - self.last.ticks,
         )

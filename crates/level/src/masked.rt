@@ -2,7 +2,6 @@
 ghost use Rattle.std.specs.Prelude.{◌≡◌, ◌≤◌, ◌<◌, length};
 ghost use Rattle.model.specs.Limits.{longest_hyperperiod};
 ghost use Rattle.sheet.specs.Meant.{meant};
-ghost use Rattle.walk.specs.Inside.{Marks};
 ghost use Rattle.level.specs.Masked.{MachineMasked, Masked, Idle, Lowest};
 
 use model::LONGEST_HYPERPERIOD;
@@ -21,7 +20,7 @@ pub struct MaskedSheet<'a> {
     pub sheet: Sheet<'a>,
     pub masks: [Masks; 8],
     pub lowest: [u32; HYPERPERIOD_MASKS],
-    pub ghost masked: { Masked sheet.bytes.now masks },
+    pub ghost marked: { Masked sheet.bytes.now masks },
     pub ghost lowered: { Lowest sheet.hyperperiod masks lowest },
 }
 

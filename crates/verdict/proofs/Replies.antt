@@ -19,13 +19,13 @@ use Rattle.verdict.specs.Judge.{verdict_reply}
 use Rattle.verdict.specs.Inside.{judgement, found}
 
 -- the verdict is the first that a machine gives
-pub verdict_is : (b : List ℕ) (o : Option Verdict) → found o ≡ first_of (machine_gives (decode b)) 0 (machine_count b)
-    → judgement (unwrap_or o Fits) ≡ verdict (decode b)
+pub verdict_is : (b : List ℕ) {n : ℕ} (o : Option Verdict) → n ≡ machine_count b
+    → found o ≡ first_of (machine_gives (decode b)) 0 n → judgement (unwrap_or o Fits) ≡ verdict (decode b)
 unfolding verdict
-verdict_is b o e =
+verdict_is b o count e =
     fits_else o
     ∙ ap (λ x. unwrap_or x fits) e
-    ∙ sym (ap (λ n. unwrap_or (first_of (machine_gives (decode b)) 0 n) fits) (decode_count b))
+    ∙ ap (λ k. unwrap_or (first_of (machine_gives (decode b)) 0 k) fits) (count ∙ sym (decode_count b))
   where
     fits_else : (o : Option Verdict) → judgement (unwrap_or o Fits) ≡ unwrap_or (found o) fits
     fits_else None = refl

@@ -29,6 +29,6 @@ pub fn judge(sheet: &[u8]) -> Result<Verdict, Reason>
 pub fn verdict_of(sheet: &Sheet<'_>) -> Verdict
     ensures { judgement result ≡ verdict (decode sheet.now.bytes.now) }
 {
-    let sheet = MaskedSheet::new(*sheet);
-    starts::machines_judged(&sheet).unwrap_or(Verdict::Fits)
+    let masked = MaskedSheet::new(*sheet);
+    starts::machines_judged(&masked).unwrap_or(Verdict::Fits)
 }

@@ -2,4 +2,4 @@ use Rattle.level.proofs.Onward.{begun_at}
 use Rattle.level.proofs.Level.begun.Goals as goal
 
 pub returns : goal.returns
-returns c = begun_at c.args.sheet.now c.args.machine c.args.start c.requires.0 c.requires.1
+returns c = begun_at c.args.masked.now c.args.machine c.args.start c.requires.0 c.requires.1

@@ -12,28 +12,26 @@ tick-requires c = (walked_stands c.loop-n.invariant, omega (arith, c.loop-n.inva
 
 pub overflow_add-level : goal.overflow_add-level
 overflow_add-level c =
-    omega (arith, level_small c.args.sheet.now.sheet.counted.accepted c.loop-n.invariant c.tick.ensures)
+    omega (arith, level_small c.loop-n.invariant c.tick.ensures)
 
 pub returns-then-level-n : goal.returns-then-level-n
 returns-then-level-n c =
-    length_closes c.args.sheet.now.sheet.counted.accepted c.loop-n.invariant c.tick.ensures c.if-level-n.true
+    length_closes c.loop-n.invariant c.tick.ensures c.if-level-n.true
 
 pub returns-then-slack-demand : goal.returns-then-slack-demand
 returns-then-slack-demand c =
-    let accepted = c.args.sheet.now.sheet.counted.accepted in
     let walked = c.loop-n.invariant in
-    length_late accepted walked c.tick.ensures c.if-level-n.false c.saturating_sub.ensures c.max-slack.ensures
-    (length_demand accepted walked c.tick.ensures c.demand-demand.ensures) c.if-slack-demand.true
+    length_late walked c.tick.ensures c.if-level-n.false c.saturating_sub.ensures c.max-slack.ensures
+    (length_demand walked c.tick.ensures c.demand-demand.ensures) c.if-slack-demand.true
 
 pub loop-n-preserved : goal.loop-n-preserved
 loop-n-preserved c =
-    let accepted = c.args.sheet.now.sheet.counted.accepted in
     let walked = c.loop-n.invariant in
     elim c.if-slack-level.branch [
       | then-slack-level+else-slack-demand w ↦
-          walked_next accepted walked c.tick.ensures c.if-level-n.false c.saturating_sub.ensures c.max-slack.ensures
-          (omega (arith, length_demand accepted walked c.tick.ensures w.demand-demand.ensures, w.if-slack-demand.false))
-      | else-slack-level w ↦ walked_light accepted walked c.tick.ensures c.if-level-n.false c.saturating_sub.ensures c.max-slack.ensures w.if-slack-level.false
+          walked_next walked c.tick.ensures c.if-level-n.false c.saturating_sub.ensures c.max-slack.ensures
+          (omega (arith, length_demand walked c.tick.ensures w.demand-demand.ensures, w.if-slack-demand.false))
+      | else-slack-level w ↦ walked_light walked c.tick.ensures c.if-level-n.false c.saturating_sub.ensures c.max-slack.ensures w.if-slack-level.false
     ]
 
 pub returns : goal.returns
