@@ -61,20 +61,18 @@ module _ {b : List ℕ} (accepted : Accepted b) where
   requests_small (suc i) s n l h =
       omega (arith, requests_small i s n (omega arith) h, request_small i s n (omega arith) h)
 
-placed_kept : {masked : MaskedSheet} {i s n above own : ℕ} {level : Level} {progress : List Progress} {last : LastInstant}
-    → PlacedAt masked i s n level
-    → PlacedAt masked i s n
-    (record {
-      machine = level.machine;
-      start = level.start;
-      ticks = level.ticks;
-      phase = level.phase;
-      progress = progress;
-      above = above;
-      own = own;
-      last = last;
-    })
-placed_kept h = record { known = h.known; machine = h.machine; start = h.start; ticks = h.ticks; near = h.near; phase = h.phase }
+placed_kept : {masked : MaskedSheet} {i s n above own : ℕ} {level : Level} {progress : List Progress}
+    {last : LastInstant} → PlacedAt masked i s n level
+    → PlacedAt masked i s n (record level { progress = progress; above = above; own = own; last = last })
+placed_kept h =
+    record {
+      known = h.known;
+      machine = h.machine;
+      start = h.start;
+      ticks = h.ticks;
+      near = h.near;
+      phase = h.phase;
+    }
 
 pub walking_begin : {masked : MaskedSheet} {level : Level} → LevelStands masked level → Walking masked level 0 level 0
 unfolding added
@@ -92,8 +90,8 @@ walking_begin h =
     }
 
 -- at the end of the loop over the machines above
-pub walking_last : {masked : MaskedSheet} {old at : Level} {j above : ℕ} → Walking masked old j at above → j ≤ old.machine
-    → old.machine ≤ j → Walking masked old old.machine at above
+pub walking_last : {masked : MaskedSheet} {old at : Level} {j above : ℕ} → Walking masked old j at above
+    → j ≤ old.machine → old.machine ≤ j → Walking masked old old.machine at above
 walking_last h l u = rw (le_antisymm l u) at h
 
 module _ (masked : MaskedSheet) {old at : Level} {j above : ℕ}
@@ -119,7 +117,8 @@ module _ (masked : MaskedSheet) {old at : Level} {j above : ℕ}
   )
 
   module _ {new : Progress}
-      (moved : Moved (machine_meant masked.sheet j) (mask_at masked.masks j old.phase) (progress_of at.progress j) new) where
+      (moved : Moved (machine_meant masked.sheet j) (mask_at masked.masks j old.phase) (progress_of at.progress j)
+      new) where
     moved_on : ProgressAt (machine_meant masked.sheet j) old.start (old.ticks + 1) new
     moved_on = moved.on old.start old.ticks marks (walking.half.stands j (omega arith) l)
 
@@ -147,7 +146,8 @@ module _ (masked : MaskedSheet) {old at : Level} {j above : ℕ}
           moved = λ k u.
               elim (ℕ_discrete k j) [
                 | yes e ↦
-                    rw (e, get_or-set_same at.progress j new blank (omega (arith, half.long, few masked known))) moved_on
+                    rw (e, get_or-set_same at.progress j new blank (omega (arith, half.long, few masked known)))
+                    moved_on
                 | no d ↦ rw (get_or-set_other at.progress j k new blank d) (half.moved k (omega arith))
               ];
           stands = λ k u v.
@@ -156,16 +156,7 @@ module _ (masked : MaskedSheet) {old at : Level} {j above : ℕ}
         }
 
     pub walking_more : Walking masked old (j + 1)
-        (record {
-          machine = at.machine;
-          start = at.start;
-          ticks = at.ticks;
-          phase = at.phase;
-          progress = set at.progress j new;
-          above = at.above;
-          own = at.own;
-          last = at.last;
-        })
+        (record at { progress = set at.progress j new })
         (above + new.top)
     walking_more = record { placed = placed_kept walking.placed; last = walking.last; half = half_more }
 
@@ -178,16 +169,7 @@ module _ (masked : MaskedSheet) {old at : Level} {above : ℕ}
   ended : {last : LastInstant}
       → Last (machine_meant masked.sheet old.machine) old.start (old.ticks + 1) last
       → LevelMoved masked old
-      (record {
-        machine = at.machine;
-        start = at.start;
-        ticks = at.ticks;
-        phase = at.phase;
-        progress = set at.progress old.machine own;
-        above = above;
-        own = own.top;
-        last = last;
-      })
+      (record at { progress = set at.progress old.machine own; above = above; own = own.top; last = last })
   ended last =
       let l : old.machine ≤ old.machine = omega arith in
       let all = half_more masked ready walking l moved in
@@ -204,26 +186,13 @@ module _ (masked : MaskedSheet) {old at : Level} {above : ℕ}
 
   pub ended_idle : mask_at masked.masks old.machine old.phase ≡ 0
       → LevelMoved masked old
-      (record {
-        machine = at.machine;
-        start = at.start;
-        ticks = at.ticks;
-        phase = at.phase;
-        progress = set at.progress old.machine own;
-        above = above;
-        own = own.top;
-        last = at.last;
-      })
+      (record at { progress = set at.progress old.machine own; above = above; own = own.top })
   ended_idle e =
       ended (rw walking.last (last_none ready.0.figures.last (marks masked ready walking (omega arith)) e))
 
   pub ended_instant : (mask_at masked.masks old.machine old.phase ≡ 0 → ⊥)
       → LevelMoved masked old
-      (record {
-        machine = at.machine;
-        start = at.start;
-        ticks = at.ticks;
-        phase = at.phase;
+      (record at {
         progress = set at.progress old.machine own;
         above = above;
         own = own.top;

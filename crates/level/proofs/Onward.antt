@@ -41,17 +41,7 @@ begun masked i s =
 
 -- after a tick
 abbrev pub onward : Level → ℕ → Level
-onward at phase =
-    record {
-      machine = at.machine;
-      start = at.start;
-      ticks = at.ticks + 1;
-      phase = phase;
-      progress = at.progress;
-      above = at.above;
-      own = at.own;
-      last = at.last;
-    }
+onward at phase = record at { ticks = at.ticks + 1; phase = phase }
 
 module _ (masked : MaskedSheet) where
   pub begun_at : (i s : ℕ) → i < masked.sheet.machines → s < masked.sheet.hyperperiod
@@ -59,7 +49,15 @@ module _ (masked : MaskedSheet) where
   unfolding added
   begun_at i s known l =
       record {
-        placed = record { known = known; machine = refl; start = refl; ticks = refl; near = omega arith; phase = phase };
+        placed =
+            record {
+              known = known;
+              machine = refl;
+              start = refl;
+              ticks = refl;
+              near = omega arith;
+              phase = phase;
+            };
         figures =
             record {
               progress =
@@ -71,7 +69,9 @@ module _ (masked : MaskedSheet) where
                   };
               above = sym (requests_nothing i);
               own = sym (request_empty (machine_meant masked.sheet i) s);
-              last = last_begin (phase_marks masked (s + 0) phase i known) (row_zeros (sheet_sizes masked.sheet i known) s);
+              last =
+                  last_begin (phase_marks masked (s + 0) phase i known)
+                  (row_zeros (sheet_sizes masked.sheet i known) s);
             };
       }
     where
@@ -123,7 +123,8 @@ module _ (masked : MaskedSheet) where
           (progress_of level.progress j)
       progress j u =
           let known : j < masked.sheet.machines = omega (arith, h.placed.known) in
-          (moved_not (sheet_sizes masked.sheet j known) (quiet j u)).on level.start level.ticks (here j known) (h.figures.progress.at j u)
+          (moved_not (sheet_sizes masked.sheet j known) (quiet j u)).on level.start level.ticks (here j known)
+          (h.figures.progress.at j u)
 
       request_idle : (j : ℕ) → j ≤ level.machine
           → request (machine_meant masked.sheet j) level.start level.ticks
@@ -179,5 +180,6 @@ module _ (masked : MaskedSheet) where
     pub stands_demand : {v : ℕ} → DueWithin m level.last.mask level.last.row (level.ticks - level.last.ticks) v
         → v ≡ demand (machine_meant masked.sheet level.machine) level.start level.ticks
     stands_demand due =
-        last_demand h.figures.last (sheet_sizes masked.sheet level.machine h.placed.known) (omega (arith, h.figures.last.is.early))
+        last_demand h.figures.last (sheet_sizes masked.sheet level.machine h.placed.known)
+        (omega (arith, h.figures.last.is.early))
         (rw e at due)

@@ -22,8 +22,8 @@ pub struct Progress {
     pub top: u32,
 }
 
-// Machines 0 to `machine` in the walk for that machine, so many ticks from a start, and the phase of the next tick in the
-// hyperperiod: their progress, the requests above the machine added, its own, and its last instant.
+// Machines 0 to `machine` in the walk for that machine, so many ticks from a start, and the phase of the next tick in
+// the hyperperiod: their progress, the requests above the machine added, its own, and its last instant.
 #[derive(Clone, Copy)]
 pub struct Level {
     pub machine: usize,

@@ -13,8 +13,8 @@ const HYPERPERIOD_MASKS: usize = LONGEST_HYPERPERIOD as usize;
 // Word t marks the tick t of a machine.
 type Masks = [u32; HYPERPERIOD_MASKS];
 
-// An accepted sheet with the masks of its machines, and at word t of `lowest` the lowest machine with an instant at t, or
-// the number of machines.
+// An accepted sheet with the masks of its machines, and at word t of `lowest` the lowest machine with an instant at t,
+// or the number of machines.
 #[derive(Drop)]
 pub struct MaskedSheet<'a> {
     pub sheet: Sheet<'a>,

@@ -38,7 +38,8 @@ module _ {n : ℕ} (p : Run nat_range_steps) (from : p.from ≡ record { start =
   run_item : (k : ℕ) → k < p.len → p.at k ≡ Some k
   run_item k l = item_known (p.at k) k ((range_runs p p.seen).3 k l ∙ ap Some (omega (arith, start)))
 
-module _ {F : Type 0} (g : Mut F (ℕ × Unit {0}) (Option Verdict)) (f : F) (answer : ℕ → Option Judgement) {n m : ℕ} (e : n ≡ m)
+module _ {F : Type 0} (g : Mut F (ℕ × Unit {0}) (Option Verdict)) (f : F) (answer : ℕ → Option Judgement)
+    {n m : ℕ} (e : n ≡ m)
     (calls : (x : ℕ) (r : Option Verdict) (h : F) → Called g f (x, tt) r h → (h ≡ f) × (found r ≡ answer x)) where
   keeps : CallKeepsClosure g f
   keeps a r h call = (calls a.0 r h call).0

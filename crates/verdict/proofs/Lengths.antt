@@ -45,7 +45,8 @@ module _ {masked : MaskedSheet} {i s : ℕ} where
     -- no length is left
     pub walked_open : longest_window < n → Some (Open i s) ≡ gives (machines_of masked) i s
     walked_open l =
-        sym (scan_open (machines_of masked) i s n) ∙ rw (let z : longest_window + 1 - n ≡ 0 = omega arith in z) at w.left
+        let none : longest_window + 1 - n ≡ 0 = omega arith in
+        sym (scan_open (machines_of masked) i s n) ∙ rw none at w.left
 
 largest : (m n : ℕ) → ord_max nat_cmp m n ≡ max m n
 largest m n = grind (arith, nat_tests)
@@ -74,7 +75,9 @@ module _ {masked : MaskedSheet} {i s n before : ℕ} {old level : Level} (walked
   both = ap₂ ◌+◌ here.figures.above here.figures.own
 
   left : scan (machines_of masked) i s n (suc (longest_window - n)) ≡ gives (machines_of masked) i s
-  left = rw (let z : suc (longest_window - n) ≡ longest_window + 1 - n = omega (arith, here.placed.near) in z) walked.left
+  left =
+      let more : suc (longest_window - n) ≡ longest_window + 1 - n = omega (arith, here.placed.near) in
+      rw more walked.left
 
   pub length_closes : level.above + level.own ≤ n → None ≡ gives (machines_of masked) i s
   length_closes l =

@@ -31,7 +31,9 @@ loop-n-preserved c =
       | then-slack-level+else-slack-demand w ↦
           walked_next walked c.tick.ensures c.if-level-n.false c.saturating_sub.ensures c.max-slack.ensures
           (omega (arith, length_demand walked c.tick.ensures w.demand-demand.ensures, w.if-slack-demand.false))
-      | else-slack-level w ↦ walked_light walked c.tick.ensures c.if-level-n.false c.saturating_sub.ensures c.max-slack.ensures w.if-slack-level.false
+      | else-slack-level w ↦
+          walked_light walked c.tick.ensures c.if-level-n.false c.saturating_sub.ensures c.max-slack.ensures
+          w.if-slack-level.false
     ]
 
 pub returns : goal.returns
