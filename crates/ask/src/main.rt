@@ -49,6 +49,7 @@ fn answer(rt: &HostRuntime, question: Question) {
     }
 }
 
+// As in `fit` but for the call, its room and the program's name; what both share is `terminal`'s.
 fn print(rt: &HostRuntime, sheet: &[u8], question: Question) {
     let mut out = [0; 65536];
     let printed = saglubitan::ask(sheet, question, &mut out);

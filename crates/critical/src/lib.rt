@@ -36,7 +36,7 @@ pub fn critical(
     ensures writes { words.new ≡ critical_words sheet.now machine from to words.old }
     ensures promises { IfOk result (HoldsCritical (machine_of (decode sheet.now) machine) from to words.new) }
 {
-    let window = window::window_of(sheet, machine, from, to as u64)?;
+    let window = window::window_of(sheet, machine, from, u64::from(to))?;
     let mut rows = [[0; 16]; WINDOW_MASKS];
     let pairs = sequence_of(&window, &mut rows);
     let needed = pairs.len();

@@ -70,7 +70,7 @@ fn refused_words(refusal: Refusal) -> ArrayString<256>
 
 // Makes a line at the start of the lent bytes that says in words why and where the named program was refused, and
 // answers its length. Bytes past the line stay as they were; with fewer than 256 bytes lent beside those of the name
-// nothing is written, and the answer is 0.
+// nothing is written, and the answer is 0 and not none, as `size` says.
 pub fn explain(program: &[u8], refusal: Refusal, out: &mut [u8]) -> usize
     ensures size { result ≡ printed_length (length program.now + 256)
         (explanation program.now refusal) out.old }

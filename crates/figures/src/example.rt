@@ -18,6 +18,7 @@ impl<'a> Example<'a> {
         Example { name, draft }
     }
 
+    // This and the next two differ in a call and a word: a closure for the call needs more lines than it saves.
     pub(crate) fn request(&self, rt: &impl Print, (machine, from, to): Window) -> io::Result<()> {
         print!(rt;
             "request of {} machine {machine} [{from},{to}): ",

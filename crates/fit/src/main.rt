@@ -14,6 +14,7 @@ fn main(rt: HostRuntime) {
     }
 }
 
+// As in `ask` but for the call, its room and the program's name; what both share is `terminal`'s.
 fn print(rt: &HostRuntime, sheet: &[u8]) {
     let mut out = [0; 512];
     let printed = saglubitan::fit(sheet, &mut out);

@@ -14,7 +14,7 @@ const HYPERPERIOD_MASKS: usize = LONGEST_HYPERPERIOD as usize;
 type Masks = [u32; HYPERPERIOD_MASKS];
 
 // An accepted sheet with the masks of its machines, and at word t of `lowest` the lowest machine with an instant at t,
-// or the number of machines.
+// or the number of machines: a tick asks only whether it is at most its own, which an option would take apart first.
 #[derive(Drop)]
 pub struct MaskedSheet<'a> {
     pub sheet: Sheet<'a>,

@@ -23,7 +23,8 @@ pub enum Reason {
     ManyInstants,
 }
 
-// A refusal as it is printed: the number of the reply, and its place.
+// A refusal as it is printed: the number of the reply, and its place. The number is no enum, since `explain` promises a
+// line for every number at every place.
 #[derive(Clone, Copy, Debug, PartialEq, Eq)]
 pub struct Refusal {
     pub number: u32,
@@ -101,7 +102,7 @@ pub enum Verdict {
 }
 
 // What was printed into lent bytes: the length of the text, and the reason for the refusal that it prints, if it prints
-// one.
+// one. Where too little is lent the length is 0 and not none, as the clauses `size` of `fit` and `ask` say.
 #[derive(Clone, Copy, Debug, PartialEq, Eq)]
 pub struct Printed {
     pub length: usize,

@@ -19,7 +19,8 @@ pub fn sheet_room() -> [u8; 2125]
     [0; 2125]
 }
 
-// Reads the input to the start of the lent bytes, until it ends or they are full, and returns how many bytes came.
+// Reads the input to the start of the lent bytes, until it ends or they are full, and returns how many bytes came. A
+// `while`, since it goes by the bytes that came, and std reads to the end only into a `Vec`, which is heap.
 pub fn read_sheet<R: Read>(input: &mut R, bytes: &mut [u8]) -> io::Result<usize>
     ensures { IfOk result (λ used. IsPrefixLen used bytes.new) }
 {
@@ -62,7 +63,8 @@ pub fn say_refusal<E: Write>(errors: &mut E, program: &[u8], refused: Option<Rea
 }
 
 // Puts a word of the command line at the start of the lent bytes, and returns its length: 0 where there is no such word
-// or where it is longer than they are. Word 0 is the program's own.
+// or where it is longer than they are, since an empty word asks nothing and no caller tells these apart. Word 0 is the
+// program's own.
 pub fn word(words: &impl Env, at: usize, bytes: &mut [u8]) -> usize
     ensures { IsPrefixLen result bytes.new }
 {
