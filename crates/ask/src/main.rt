@@ -4,7 +4,7 @@
 #![tactic(auto)]
 
 use arrayvec::ArrayVec;
-use reply::Question;
+use reply::{Question, Refusal};
 
 fn main(rt: HostRuntime) {
     let asked = saglubitan::asked_by(
@@ -56,5 +56,5 @@ fn print(rt: &HostRuntime, sheet: &[u8], question: Question) {
     let text = &out[..printed.length];
     let failure = b"ask: cannot write standard output\n";
     terminal::print(&mut rt.stdout(), &mut rt.stderr(), text, failure);
-    terminal::say_refusal(&mut rt.stderr(), b"ask", printed.refused);
+    terminal::say_refusal(&mut rt.stderr(), b"ask", printed.refused.map(Refusal::from));
 }

@@ -11,7 +11,7 @@ ghost use Rattle.ask_text.specs.Inside.{array_lines};
 
 use arrayvec::ArrayString;
 use critical::LONGEST_WORDS;
-use reply::{Kind, Printed, Question, Reason};
+use reply::{Kind, Printed, Question, Reason, Refusal};
 use text::{put_number_line, put_refused};
 
 // Numbers, one a line.
@@ -79,7 +79,7 @@ pub fn ask(sheet: &[u8], question: Question, out: &mut [u8]) -> Printed
     let mut text = ArrayString::new();
     let refused = put_answer(&mut text, sheet, question).err();
     if let Some(reason) = refused {
-        put_refused(&mut text, reason);
+        put_refused(&mut text, Refusal::from(reason));
     }
     text::print(&text, refused, out)
 }

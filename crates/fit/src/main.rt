@@ -2,6 +2,8 @@
 // REFUSED with number and place, whose words go to standard error.
 #![tactic(auto)]
 
+use reply::Refusal;
+
 fn main(rt: HostRuntime) {
     if 1 < terminal::word_count(&rt, 2) {
         terminal::say(&mut rt.stderr(), b"usage: fit < SHEET\n");
@@ -21,5 +23,5 @@ fn print(rt: &HostRuntime, sheet: &[u8]) {
     let text = &out[..printed.length];
     let failure = b"fit: cannot write standard output\n";
     terminal::print(&mut rt.stdout(), &mut rt.stderr(), text, failure);
-    terminal::say_refusal(&mut rt.stderr(), b"fit", printed.refused);
+    terminal::say_refusal(&mut rt.stderr(), b"fit", printed.refused.map(Refusal::from));
 }

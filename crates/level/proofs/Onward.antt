@@ -3,7 +3,7 @@ use Prim.Native.Nat.{ℕ, zero, suc, ◌+◌, ◌-◌, ◌%◌, ◌≤◌, ◌<�
 use mathlib.Core.Path.{◌≡◌, refl, sym, ◌∙◌, ap}
 use native.Mathlib.Omega.{arith}
 use native.Mathlib.Nat.{mod-eq_of_lt, mod-add-mod, add-zero}
-use lib.ListN.{get_or, replicate, get_or-replicate}
+use lib.ListN.{get_or, get_or-replicate}
 use Rattle.model.specs.Limits.{longest_window}
 use Rattle.model.specs.Machine.{Machine}
 use Rattle.model.specs.Reckon.{request, demand}
@@ -13,31 +13,13 @@ use Rattle.model.proofs.Added.{added_cong}
 use Rattle.sheet.specs.Meant.{machine_meant}
 use Rattle.walk.specs.Inside.{Marks, Ready, DueWithin}
 use Rattle.walk.proofs.Front.{row_zeros, last_begin, last_none, last_ready, last_demand}
-use Rattle.level.specs.declared.Progress.{Progress}
 use Rattle.level.specs.declared.Level.{Level}
 use Rattle.level.specs.declared.masked.MaskedSheet.{MaskedSheet}
 use Rattle.level.specs.Masked.{mask_at}
-use Rattle.level.specs.Inside.{ProgressAt, progress_of, machines_of, LevelAt, LevelStands, LevelMoved, LevelOnward}
+use Rattle.level.specs.Inside.{ProgressAt, nothing, progress_of, machines_of, begun, LevelAt, LevelStands, LevelMoved}
+use Rattle.level.specs.Inside.{LevelOnward}
 use Rattle.level.proofs.Phases.{few, phase_inside, phase_marks}
 use Rattle.level.proofs.Moving.{sheet_sizes, moved_not}
-
--- a machine's progress before the first tick
-abbrev pub nothing : Progress
-nothing = record { row = replicate 16 0; top = 0 }
-
--- a level before the first tick
-abbrev pub begun : MaskedSheet → ℕ → ℕ → Level
-begun masked i s =
-    record {
-      machine = i;
-      start = s;
-      ticks = 0;
-      phase = s;
-      progress = replicate 8 nothing;
-      above = 0;
-      own = 0;
-      last = record { ticks = 0; mask = mask_at masked.masks i s; row = replicate 16 0 };
-    }
 
 -- after a tick
 abbrev pub onward : Level → ℕ → Level

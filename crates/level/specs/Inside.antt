@@ -1,5 +1,5 @@
 -- What the contracts of inner functions cite, and no reader has to believe.
-use Rattle.std.specs.Prelude.{ℕ, ◌+◌, ◌%◌, ◌≤◌, ◌<◌, ◌≡◌, List, [], length, get_or}
+use Rattle.std.specs.Prelude.{ℕ, ◌+◌, ◌%◌, ◌≤◌, ◌<◌, ◌≡◌, List, [], length, get_or, replicate}
 use Rattle.model.specs.Limits.{longest_window}
 use Rattle.model.specs.Machine.{Machine, machine_of}
 use Rattle.model.specs.Legal.{requested}
@@ -11,6 +11,7 @@ use Rattle.walk.specs.Inside.{Marks, Last}
 use Rattle.level.specs.declared.Progress.{Progress}
 use Rattle.level.specs.declared.Level.{Level}
 use Rattle.level.specs.declared.masked.MaskedSheet.{MaskedSheet}
+use Rattle.level.specs.Masked.{mask_at}
 
 -- the progress has the machine's row and request bound for [s, s + n)
 pub record ProgressAt (m : Machine) (s n : ℕ) (progress : Progress) : Type 0 where
@@ -51,6 +52,24 @@ pub record FiguresAt (ms : List Machine) (i s n : ℕ) (level : Level) : Type 0 
   pub above : level.above ≡ requests ms i s n
   pub own : level.own ≡ request (machine_of ms i) s n
   pub last : Last (machine_of ms i) s n level.last
+
+-- a machine's progress before the first tick
+abbrev pub nothing : Progress
+nothing = record { row = replicate 16 0; top = 0 }
+
+-- a level before the first tick
+abbrev pub begun : MaskedSheet → ℕ → ℕ → Level
+begun masked i s =
+    record {
+      machine = i;
+      start = s;
+      ticks = 0;
+      phase = s;
+      progress = replicate 8 nothing;
+      above = 0;
+      own = 0;
+      last = record { ticks = 0; mask = mask_at masked.masks i s; row = replicate 16 0 };
+    }
 
 -- the level of machine i stands n ticks from s, of which there are no more than a window has
 pub record PlacedAt (masked : MaskedSheet) (i s n : ℕ) (level : Level) : Type 0 where

@@ -8,7 +8,7 @@ ghost use Rattle.model.specs.Limits.{longest_window};
 ghost use Rattle.model.specs.Machine.{machine_of};
 ghost use Rattle.model.specs.Reckon.{demand};
 ghost use Rattle.sheet.specs.Meant.{machine_meant};
-ghost use Rattle.level.specs.Inside.{Standing, Moved, machines_of, LevelAt, LevelStands, LevelMoved, LevelOnward};
+ghost use Rattle.level.specs.Inside.{Standing, Moved, machines_of, begun, LevelAt, LevelStands, LevelMoved, LevelOnward};
 
 pub use masked::MaskedSheet;
 use model::Way;
@@ -56,7 +56,8 @@ impl Level {
     // A machine's level before the first tick from a start.
     pub fn begun(masked: &MaskedSheet<'_>, machine: usize, start: u32) -> Self
         requires { (machine < masked.now.sheet.machines) × (start < masked.now.sheet.hyperperiod) }
-        ensures { LevelAt masked.now machine start 0 result }
+        ensures value { result ≡ begun masked.now machine start }
+        ensures stands { LevelAt masked.now machine start 0 result }
     {
         let row = [0; 16];
         let phase = start as usize;

@@ -27,7 +27,8 @@ impl<'a> Sheet<'a> {
     // The machine of a number.
     pub fn machine(&self, number: usize) -> Machine<'a>
         requires { number < self.now.machines }
-        ensures { meant result ≡ machine_meant self.now number }
+        ensures number { result.entry.number ≡ number }
+        ensures meant { meant result ≡ machine_meant self.now number }
     {
         Machine {
             entry: Entry::read(self.bytes, number),

@@ -5,7 +5,7 @@
 ghost use Rattle.std.specs.Prelude.{◌≡◌, ◌≤◌, length, IfOk};
 ghost use Rattle.std.specs.Counts.{IsPrefixLen};
 
-use reply::Reason;
+use reply::Refusal;
 use std::env::FillError;
 use std::io;
 use std::io::{Read, Write};
@@ -54,10 +54,10 @@ fn write_whole<W: Write>(output: &mut W, text: &[u8]) -> io::Result<()> {
 }
 
 // Says in words why the named program was refused, if it was.
-pub fn say_refusal<E: Write>(errors: &mut E, program: &[u8], refused: Option<Reason>) {
-    if let Some(reason) = refused {
+pub fn say_refusal<E: Write>(errors: &mut E, program: &[u8], refusal: Option<Refusal>) {
+    if let Some(refusal) = refusal {
         let mut line = [0; 512];
-        let length = saglubitan::explain(program, reason.into(), &mut line);
+        let length = saglubitan::explain(program, refusal, &mut line);
         say(errors, &line[..length]);
     }
 }

@@ -8,7 +8,6 @@ ghost use Rattle.std.specs.Prelude.{◌≡◌, ◌+◌, ◌*◌, ◌≤◌, ◌+
 ghost use Rattle.std.specs.Counts.{IsPrefixLen};
 ghost use Rattle.arrayvec.specs.ArrayString.{array_string_len};
 ghost use Rattle.reply.specs.Printed.{handed, printed_length, printed_refusal, printed};
-ghost use Rattle.reply.specs.Reply.{refusal_for};
 ghost use Rattle.text.specs.Text.{spaced, line, number_line, refused_line};
 
 use arrayvec::ArrayString;
@@ -51,11 +50,10 @@ pub fn put_number_line<const CAP: usize>(text: &mut ArrayString<CAP>, first: u32
 }
 
 // REFUSED with number and place.
-pub fn put_refused<const CAP: usize>(text: &mut ArrayString<CAP>, reason: Reason)
+pub fn put_refused<const CAP: usize>(text: &mut ArrayString<CAP>, refusal: Refusal)
     requires { array_string_len text.old + 41 ≤ CAP }
-    ensures { text.new.bytes ≡ text.old.bytes ++ refused_line (refusal_for reason) }
+    ensures { text.new.bytes ≡ text.old.bytes ++ refused_line refusal }
 {
-    let refusal = Refusal::from(reason);
     let numbers = [refusal.number, refusal.first, refusal.second];
     put_line(text, "REFUSED", &numbers);
 }

@@ -8,10 +8,10 @@ returns-then-mask-eq0 c = moved_not (sheet_sizes c.args.sheet.now _ c.requires.0
 
 pub tick-row-requires : goal.tick-row-requires
 tick-row-requires c =
-    rw c.machine-machine.ensures (standing_ready (sheet_sizes c.args.sheet.now _ c.requires.0) c.requires.1)
+    rw c.machine-machine.ensures.meant (standing_ready (sheet_sizes c.args.sheet.now _ c.requires.0) c.requires.1)
 
 pub returns : goal.returns
 returns c =
-    let e = c.machine-machine.ensures in
+    let e = c.machine-machine.ensures.meant in
     moved_tick (sheet_sizes c.args.sheet.now _ c.requires.0) _ (rw e at c.tick-row.ensures)
     (c.states.ensures ∙ ap (λ (m : Machine). m.states) e) c.top-top.ensures

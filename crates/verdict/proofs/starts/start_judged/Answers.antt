@@ -5,7 +5,7 @@ use Rattle.verdict.proofs.starts.start_judged.Goals as goal
 use Rattle.verdict.proofs.starts.start_judged.Goals.{then-slack-level+else-slack-demand, else-slack-level}
 
 pub loop-n-init : goal.loop-n-init
-loop-n-init c = walked_begin c.begun-level.ensures
+loop-n-init c = walked_begin c.begun-level.ensures.stands
 
 pub tick-requires : goal.tick-requires
 tick-requires c = (walked_stands c.loop-n.invariant, omega (arith, c.loop-n.invariant.next))
