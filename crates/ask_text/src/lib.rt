@@ -11,8 +11,8 @@ ghost use Rattle.ask_text.specs.Inside.{array_lines};
 
 use arrayvec::ArrayString;
 use critical::LONGEST_WORDS;
-use reply::{Kind, Printed, Question, Reason, Refusal};
-use text::{put_number_line, put_refused};
+use reply::{Kind, Printed, Question, Reason};
+use text::{put_number_line, put_reason};
 
 // Numbers, one a line.
 fn put_numbers(text: &mut ArrayString<65536>, numbers: &[u32])
@@ -79,7 +79,7 @@ pub fn ask(sheet: &[u8], question: Question, out: &mut [u8]) -> Printed
     let mut text = ArrayString::new();
     let refused = put_answer(&mut text, sheet, question).err();
     if let Some(reason) = refused {
-        put_refused(&mut text, Refusal::from(reason));
+        put_reason(&mut text, reason);
     }
     text::print(&text, refused, out)
 }

@@ -11,9 +11,9 @@ ghost use Rattle.verdict.specs.Inside.{judgement};
 ghost use Rattle.fit_text.specs.Fit.{machine_line, verdict_line, accepted_text, fit_text};
 
 use arrayvec::ArrayString;
-use reply::{Printed, Refusal, Verdict};
+use reply::{Printed, Verdict};
 use sheet::Sheet;
-use text::{put_line, put_refused};
+use text::{put_line, put_reason};
 use window::MachineWindow;
 
 // The line of a machine.
@@ -76,7 +76,7 @@ pub fn fit(sheet: &[u8], out: &mut [u8]) -> Printed
     let accepted = rules::accept(sheet);
     match &accepted {
         Ok(sheet) => put_accepted(&mut text, sheet),
-        Err(reason) => put_refused(&mut text, Refusal::from(*reason)),
+        Err(reason) => put_reason(&mut text, *reason),
     }
     text::print(&text, accepted.err(), out)
 }

@@ -8,6 +8,7 @@ ghost use Rattle.std.specs.Prelude.{◌≡◌, ◌+◌, ◌*◌, ◌≤◌, ◌+
 ghost use Rattle.std.specs.Counts.{IsPrefixLen};
 ghost use Rattle.arrayvec.specs.ArrayString.{array_string_len};
 ghost use Rattle.reply.specs.Printed.{handed, printed_length, printed_refusal, printed};
+ghost use Rattle.reply.specs.Reply.{refusal_for};
 ghost use Rattle.text.specs.Text.{spaced, line, number_line, refused_line};
 
 use arrayvec::ArrayString;
@@ -56,6 +57,14 @@ pub fn put_refused<const CAP: usize>(text: &mut ArrayString<CAP>, refusal: Refus
 {
     let numbers = [refusal.number, refusal.first, refusal.second];
     put_line(text, "REFUSED", &numbers);
+}
+
+// The refusal for a reason.
+pub fn put_reason<const CAP: usize>(text: &mut ArrayString<CAP>, reason: Reason)
+    requires { array_string_len text.old + 41 ≤ CAP }
+    ensures { text.new.bytes ≡ text.old.bytes ++ refused_line (refusal_for reason) }
+{
+    put_refused(text, Refusal::from(reason));
 }
 
 // Prints a text into the lent bytes, and hands back the reason for the refusal that it prints, if it prints one. With
