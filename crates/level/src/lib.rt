@@ -77,7 +77,7 @@ impl Level {
         }
     }
 
-    // Goes on by a tick.
+    // Goes on by a tick. Where the level stands is a clause and no ghost field, since it fails between a tick's writes.
     pub fn tick(&mut self, masked: &MaskedSheet<'_>)
         requires { LevelStands masked.now self.old × (self.old.ticks < longest_window) }
         ensures { LevelOnward masked.now self.old self.new }

@@ -1,5 +1,6 @@
 // The walk over the ticks of a window: which actions may be triggered at each tick, and the row of
-// figures, one a state, that is moved from tick to tick. Definitions: specs/Inside.antt.
+// figures, one a state, that is moved from tick to tick. Definitions: specs/Inside.antt. `Ready` and `Joins` are clauses
+// and no types: a value of one would be made anew at each tick, for a single call.
 #![tactic(auto)]
 
 ghost use Rattle.std.specs.Prelude.{◌≡◌, ◌+◌, ◌^◌, ◌≤◌, ◌<◌, length};
