@@ -19,7 +19,7 @@ use Rattle.reply.specs.declared.Refusal.{Refusal}
 use Rattle.reply.specs.Answer.{paper}
 use Rattle.reply.specs.Inside.{refused_by}
 use Rattle.reply.specs.Lent.{in_front, unless_refused}
-use Rattle.reply.specs.Reply.{Reply, answer, ◌otherwise◌}
+use Rattle.reply.specs.Reply.{Reply, answer, refused, ◌otherwise◌}
 use Rattle.reply.specs.Tabled.{paper as tabled_paper}
 use Rattle.reply.proofs.Printing.{Promised, promised_unique}
 use Rattle.reply.proofs.Refusals.{or_else_none, enough}
@@ -28,7 +28,7 @@ use Rattle.window.specs.Window.{question_refusal}
 use Rattle.bounds.specs.Table.{request_table, table_refusal, table_reply, table_words}
 use Rattle.critical.specs.Critical.{sequence_of, words_of}
 use Rattle.critical.specs.Critical.{critical_refusal, critical_reply, critical_words}
-use Rattle.text.specs.Text.{number_line}
+use Rattle.text.specs.Text.{number_line, refused_line}
 use Rattle.ask_text.specs.Inside.{array_lines}
 use Rattle.ask_text.specs.Ask.{number_lines, pair_lines, reply_text, refusal_in, lent}
 use Rattle.ask_text.specs.Ask.{answer_text, ask_text, ask_refusal}
@@ -49,6 +49,11 @@ answered : {n : ℕ} {figures : List ℕ} (m : ℕ) (others : List ℕ) (x : Opt
     → answer n figures ≡ x otherwise answer m others → (x ≡ None) × (figures ≡ others)
 answered m others None e = (refl, cc)
 answered m others (Some r) e = absurd (let z : ◌≡◌ {A = ℕ} 0 1 = cc in omega arith)
+
+-- a reply that refuses prints its refusal and hands it back
+pub refused_text : (more : List ℕ) {reply : Reply} {x : Refusal} → reply ≡ refused x
+    → (reply_text reply more ≡ refused_line x) × (refusal_in reply ≡ Some x)
+refused_text more e = rw e (refl, refl)
 
 -- a reply that answers, as it is put into an empty text
 answered_text : (more : List ℕ) {reply : Reply} {n : ℕ} {figures before after : List ℕ} → answer n figures ≡ reply

@@ -22,7 +22,8 @@ fn kind_of(word: &[u8]) -> Option<Kind>
 }
 
 // What the words of a command line ask: five of them with the program's own, of which these four are the name of a
-// question and the three numbers of a machine and a window.
+// question and the three numbers of a machine and a window. A number beside the four and no slice of all, since std
+// hands over one word at a time.
 pub fn asked_by(
     words: usize,
     name: &[u8],

@@ -1,5 +1,5 @@
-// Limits of sheets and windows, in ticks, and the way that a walk goes. All else here is definitions, in specs/, and
-// theorems, in proofs/.
+// Limits of sheets and windows, in ticks, an action, and the way that a walk goes. All else here is definitions, in
+// specs/, and theorems, in proofs/.
 #![tactic(auto)]
 
 ghost use Rattle.std.specs.Prelude.{◌≡◌};

@@ -29,7 +29,7 @@ pub fn read_byte(bytes: &[u8], at: usize) -> usize
     usize::from(bytes[at])
 }
 
-// The two bytes from `at` on, as a number.
+// The two bytes from `at` on, as a number; this and the next are two, as `le16` and `le32` are.
 pub fn read_le16(bytes: &[u8], at: usize) -> u32
     requires { at + 2 ≤ length bytes.now }
     ensures { (result ≡ le16 bytes.now at) × (result < 65536) }

@@ -9,7 +9,7 @@ use std::io;
 use std::io::{ErrorKind, Read};
 
 #[derive(Clone, Copy)]
-pub(crate) enum Kind {
+pub(crate) enum CallKind {
     Check,
     Request,
     Demand,
@@ -19,18 +19,18 @@ pub(crate) enum Kind {
     Judge,
 }
 
-impl TryFrom<u32> for Kind {
+impl TryFrom<u32> for CallKind {
     type Error = io::Error;
 
-    fn try_from(number: u32) -> io::Result<Kind> {
+    fn try_from(number: u32) -> io::Result<CallKind> {
         match number {
-            0 => Ok(Kind::Check),
-            1 => Ok(Kind::Request),
-            2 => Ok(Kind::Demand),
-            3 => Ok(Kind::Table),
-            4 => Ok(Kind::Critical),
-            5 => Ok(Kind::Plain),
-            6 => Ok(Kind::Judge),
+            0 => Ok(CallKind::Check),
+            1 => Ok(CallKind::Request),
+            2 => Ok(CallKind::Demand),
+            3 => Ok(CallKind::Table),
+            4 => Ok(CallKind::Critical),
+            5 => Ok(CallKind::Plain),
+            6 => Ok(CallKind::Judge),
             _ => Err(ErrorKind::InvalidData.into()),
         }
     }
@@ -38,7 +38,7 @@ impl TryFrom<u32> for Kind {
 
 #[derive(Clone, Copy)]
 pub(crate) struct Call {
-    kind: Kind,
+    kind: CallKind,
     machine: u32,
     from: u32,
     to: u32,
@@ -53,7 +53,7 @@ impl Call {
         let mut head = [0; 24];
         input.read_exact(&mut head)?;
         let mut head = &head[..];
-        let kind = Kind::try_from(read_word(&mut head)?)?;
+        let kind = CallKind::try_from(read_word(&mut head)?)?;
         let machine = read_word(&mut head)?;
         let from = read_word(&mut head)?;
         let to = read_word(&mut head)?;
@@ -73,7 +73,7 @@ impl Call {
     }
 
     pub(crate) fn lends_words(&self) -> bool {
-        matches!(self.kind, Kind::Table | Kind::Critical)
+        matches!(self.kind, CallKind::Table | CallKind::Critical)
     }
 
     // Makes the call; a table or a critical sequence may write the words.
@@ -85,13 +85,13 @@ impl Call {
             ..
         } = *self;
         let reply = match self.kind {
-            Kind::Check => saglubitan::check(sheet).map(accepted),
-            Kind::Request => saglubitan::request(sheet, machine, from, to).map(number),
-            Kind::Demand => saglubitan::demand(sheet, machine, from, to).map(number),
-            Kind::Table => saglubitan::table(sheet, machine, from, to, words).map(|()| filled()),
-            Kind::Critical => saglubitan::critical(sheet, machine, from, to, words).map(number),
-            Kind::Plain => saglubitan::plain(sheet, machine, from, to).map(number),
-            Kind::Judge => saglubitan::judge(sheet).map(judged),
+            CallKind::Check => saglubitan::check(sheet).map(accepted),
+            CallKind::Request => saglubitan::request(sheet, machine, from, to).map(number),
+            CallKind::Demand => saglubitan::demand(sheet, machine, from, to).map(number),
+            CallKind::Table => saglubitan::table(sheet, machine, from, to, words).map(|()| filled()),
+            CallKind::Critical => saglubitan::critical(sheet, machine, from, to, words).map(number),
+            CallKind::Plain => saglubitan::plain(sheet, machine, from, to).map(number),
+            CallKind::Judge => saglubitan::judge(sheet).map(judged),
         };
         reply.unwrap_or_else(refused)
     }

@@ -119,7 +119,7 @@ pub enum Kind {
     Plain,
 }
 
-// A question. For a table `to` is its length.
+// A question. For a table `to` is its length: one field for both, as a command line has one word for them.
 #[derive(Clone, Copy, Debug, PartialEq, Eq)]
 pub struct Question {
     pub kind: Kind,

@@ -1,4 +1,6 @@
-// An accepted sheet, and the machines in it.
+// An accepted sheet, and the machines in it. A machine's action, cost and divisor are those of its entry, by which the
+// rules read a sheet that is not accepted yet. That an action has the number j is a clause and no type: it is known at the
+// call, and for one call.
 ghost use Rattle.sheet.specs.Inside.{Accepted, Counted};
 
 use crate::Entry;
@@ -27,6 +29,7 @@ impl<'a> Sheet<'a> {
     // The machine of a number.
     pub fn machine(&self, number: usize) -> Machine<'a>
         requires { number < self.now.machines }
+        ensures bytes { result.entry.sheet.now ≡ self.now.bytes.now }
         ensures number { result.entry.number ≡ number }
         ensures meant { meant result ≡ machine_meant self.now number }
     {

@@ -1,5 +1,4 @@
-// A machine's entry in a sheet that rules 1 to 6 let through, by which its actions are read. No other code knows where
-// an action stands.
+// A machine's entry in a sheet that rules 1 to 6 let through, by which its actions are read.
 ghost use Rattle.sheet.specs.Inside.{HasEntry};
 
 use crate::fields;

@@ -1,4 +1,4 @@
-// The sheet: what its bytes mean, and the one reader of its entries and actions.
+// The sheet: what its bytes mean, the one reader of its entries and actions, and accepted sheets with their machines.
 // Definitions: specs/Format.antt, in document 01's order.
 #![tactic(auto)]
 

@@ -20,7 +20,8 @@ pub fn sheet_room() -> [u8; 2125]
 }
 
 // Reads the input to the start of the lent bytes, until it ends or they are full, and returns how many bytes came. A
-// `while`, since it goes by the bytes that came, and std reads to the end only into a `Vec`, which is heap.
+// `while`, since it goes by the bytes that came, and std reads to the end only into a `Vec`, which is heap; a number
+// beside lent bytes, as `read` has it.
 pub fn read_sheet<R: Read>(input: &mut R, bytes: &mut [u8]) -> io::Result<usize>
     ensures { IfOk result (λ used. IsPrefixLen used bytes.new) }
 {

@@ -1,4 +1,6 @@
 // Text that grows piece by piece: each function adds its piece at the end, and `print` copies the text into lent bytes.
+// Not by `write!`, which promises its text only where it succeeds; how much room is left falls with each piece, and so
+// is a clause.
 // Definitions: specs/Text.antt, and Printed.antt of `reply`.
 #![tactic(auto)]
 

@@ -2,7 +2,7 @@
 ghost use Rattle.std.specs.Prelude.{◌≡◌};
 ghost use Rattle.text.specs.Text.{read_number, with_digit};
 
-// Reads a word of decimal digits, at most 4,294,967,295.
+// Reads a word of decimal digits, at most 4,294,967,295. Not by `parse`, which takes a sign.
 pub fn read_number(word: &[u8]) -> Option<u32>
     ensures { result ≡ read_number word.now }
 {
