@@ -22,7 +22,7 @@ use Rattle.model.specs.Inside.{may_trigger, behind, ahead, figure, brings, due_t
 use Rattle.model.proofs.Tests.{leb_same}
 use Rattle.model.proofs.Names.{cost_read}
 use Rattle.model.proofs.Accepted.{sizes_cost}
-use Rattle.walk.specs.Inside.{Lowest, Joins, brought, pushed, due_or, Ticked, DueWithin}
+use Rattle.walk.specs.Inside.{Lowest, Ready, Joins, brought, pushed, due_or, Ticked, DueWithin}
 use Rattle.walk.proofs.Mask.{Unseen, unseen_begin, unseen_one, unseen_next}
 use Rattle.walk.proofs.Mask.{Most, most_begin, most_more, most_end}
 
@@ -42,29 +42,34 @@ module _ {m : Machine} (sizes : MachineSizes m) {k : ℕ} (l : k < count m) wher
   reached On = (sizes.action k l).sink
   reached Back = (sizes.action k l).source
 
-  -- and it joins two states of a row of small figures
-  pub joins : (row : List ℕ) → 16 ≤ length row → ((q : ℕ) → q < m.states → figure row q < 2 ^ 31) → Joins m k row
-  joins row long small =
-      record {
-        below = l;
-        long = long;
-        leaves = λ way. omega (arith, left_state way, sizes.states.1);
-        reaches = λ way. omega (arith, reached way, sizes.states.1);
-        fits = λ way. omega (arith, small _ (left_state way), (sizes_cost m sizes k l).1);
-      }
+-- the action that a mask gives next joins two states of a row that is ready for it
+pub next_joins : {m : Machine} → MachineSizes m → {mask : ℕ} {row : List ℕ} → Ready m mask row
+    → {j left k others : ℕ} → Unseen mask j left → Lowest left k others → Joins m k row
+next_joins sizes ready unseen next =
+    let known = (unseen_one unseen next ready.marks).0 in
+    record {
+      below = known;
+      leaves = λ way. omega (arith, left_state sizes known way, sizes.states.1);
+      reaches = λ way. omega (arith, reached sizes known way, sizes.states.1);
+      fits = λ way. omega (arith, ready.small _ (left_state sizes known way), (sizes_cost _ sizes _ known).1);
+    }
 
 -- what it brings, where the action has been read
-pub brought_is : (way : Way) (m : Machine) (k : ℕ) (row : List ℕ) {a : Action} {state : ℕ} → a ≡ action_of m k
-    → state ≡ behind way a → figure row state + a.time ≡ brought way m k row
-brought_is way m k row e f =
-    ap₂ ◌+◌ (ap (figure row) (f ∙ ap (behind way) e)) (cost_read m k (ap (λ (x : Action). x.time) e))
+pub brought_is : (way : Way) (m : Machine) (k : ℕ) (row : List ℕ) {a : Action} → a ≡ action_of m k
+    → figure row (behind way a) + a.time ≡ brought way m k row
+brought_is way m k row e =
+    ap₂ ◌+◌ (ap (λ x. figure row (behind way x)) e) (cost_read m k (ap (λ (x : Action). x.time) e))
+
+pub fits_read : {m : Machine} {k : ℕ} {row : List ℕ} → Joins m k row → (way : Way) {a : Action} → a ≡ action_of m k
+    → figure row (behind way a) + a.time < 2 ^ 32
+fits_read {m} {k} {row} h way e = rw (brought_is way m k row e) (h.fits way)
 
 -- it raises a row at the state that it leads to, and nowhere else
 module _ (way : Way) (m : Machine) (k : ℕ) (old row : List ℕ) where
-  pub pushed_is : {a : Action} {from to : ℕ} → a ≡ action_of m k → from ≡ behind way a → to ≡ ahead way a
-      → set row to (max (figure row to) (figure old from + a.time)) ≡ pushed way m k old row
-  pushed_is {a} {from} {to} e f g =
-      rw (g ∙ ap (ahead way) e, brought_is way m k old e f) refl
+  pub pushed_is : {a : Action} {to brings : ℕ} → a ≡ action_of m k → to ≡ ahead way a
+      → brings ≡ figure old (behind way a) + a.time → set row to (max (figure row to) brings) ≡ pushed way m k old row
+  pushed_is e f g =
+      rw (f ∙ ap (ahead way) e, g ∙ brought_is way m k old e) refl
 
   pushed_at : ahead way (action_of m k) < length row → (q : ℕ)
       → figure (pushed way m k old row) q
@@ -81,7 +86,7 @@ pub due_is : (m : Machine) (k : ℕ) (row : List ℕ) (ticks most : ℕ) {a : Ac
     → a.deadline ≤ ticks → max most (figure row a.source + a.time) ≡ due_or m k row ticks most
 due_is m k row ticks most e l =
     let due = le-leb (action_of m k).deadline ticks (omega (arith, l, ap (λ (x : Action). x.deadline) e)) in
-    rw due (ap (max most) (brought_is On m k row e refl))
+    rw due (ap (max most) (brought_is On m k row e))
 
 -- what action k brings at a tick at which it may not be triggered, and at one at which it may
 pub brings_idle : (way : Way) (m : Machine) (row : ℕ → ℕ) (q t k : ℕ) → may_trigger m t k ≡ false

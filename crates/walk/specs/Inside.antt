@@ -54,7 +54,6 @@ brought way m k row = figure row (behind way (action_of m k)) + cost m k
 -- action j of a machine joins two states of a row, and what it brings fits a word
 pub record Joins (m : Machine) (j : ℕ) (row : List ℕ) : Type 0 where
   pub below : j < count m
-  pub long : 16 ≤ length row
   pub leaves : (way : Way) → behind way (action_of m j) < 16
   pub reaches : (way : Way) → ahead way (action_of m j) < 16
   pub fits : (way : Way) → brought way m j row < 2 ^ 32

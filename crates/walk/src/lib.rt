@@ -1,12 +1,12 @@
 // The walk over the ticks of a window: which actions may be triggered at each tick, and the row of
-// figures, one a state, that is moved from tick to tick. Definitions: specs/Inside.antt. `Ready` and `Joins` are clauses
-// and no types: a value of one would be made anew at each tick, for a single call.
+// figures, one a state, that is moved from tick to tick. Definitions: specs/Inside.antt. `Ready` and
+// `Joins` are clauses and no types: a value of one would be made anew at each tick, for a single call.
 #![tactic(auto)]
 
 ghost use Rattle.std.specs.Prelude.{◌≡◌, ◌+◌, ◌^◌, ◌≤◌, ◌<◌, length};
 ghost use Rattle.model.specs.Machine.{count, divisor as machine_divisor};
 ghost use Rattle.model.specs.Reckon.{most};
-ghost use Rattle.model.specs.Inside.{InRange, may_trigger, figure};
+ghost use Rattle.model.specs.Inside.{InRange, may_trigger, behind, figure};
 ghost use Rattle.sheet.specs.Meant.{meant};
 ghost use Rattle.walk.specs.Inside.{bit, Marks, AllMarked, WindowMarked, Ready, Joins, pushed, Ticked};
 ghost use Rattle.walk.specs.Inside.{due_or, DueWithin, brought as way_brought};
@@ -14,7 +14,7 @@ ghost use Rattle.walk.specs.Inside.{due_or, DueWithin, brought as way_brought};
 mod marked;
 
 pub use marked::Marked;
-use model::{LONGEST_WINDOW, Way};
+use model::{Action, LONGEST_WINDOW, Way};
 use sheet::Machine;
 
 // A mask for each tick of the longest window, and one for its end.
@@ -94,8 +94,8 @@ fn push(machine: &Machine<'_>, j: usize, way: Way, old: &Row, row: &mut Row)
     ensures { row.new ≡ pushed way (meant machine.now) j old.now row.old }
 {
     let action = machine.action(j);
-    let (behind, ahead) = way.ends(&action);
-    row[ahead] = row[ahead].max(old[behind] + action.time);
+    let (_, ahead) = way.ends(&action);
+    row[ahead] = row[ahead].max(brings(&action, way, old));
 }
 
 // What action j brings to the state that it leads to.
@@ -103,8 +103,16 @@ pub fn brought(machine: &Machine<'_>, j: usize, way: Way, row: &Row) -> u32
     requires { Joins (meant machine.now) j row.now }
     ensures { result ≡ way_brought way (meant machine.now) j row.now }
 {
-    let action = machine.action(j);
-    let (behind, _) = way.ends(&action);
+    brings(&machine.action(j), way, row)
+}
+
+// What an action that has been read brings: the figure that it leaves, and its cost.
+fn brings(action: &Action, way: Way, row: &Row) -> u32
+    requires leaves { behind way action.now < 16 }
+    requires fits { figure row.now (behind way action.now) + action.now.time < 2 ^ 32 }
+    ensures { result ≡ figure row.now (behind way action.now) + action.now.time }
+{
+    let (behind, _) = way.ends(action);
     row[behind] + action.time
 }
 
@@ -141,5 +149,5 @@ fn due_or(machine: &Machine<'_>, j: usize, row: &Row, ticks: u32, most: u32) -> 
     if ticks < action.deadline {
         return most;
     }
-    most.max(row[action.source] + action.time)
+    most.max(brings(&action, Way::On, row))
 }

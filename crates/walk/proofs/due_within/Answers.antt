@@ -1,7 +1,5 @@
-use Rattle.std.proofs.Common.{rules}
 use Rattle.sheet.proofs.Entries.{meant_sizes}
-use Rattle.walk.proofs.Mask.{unseen_one}
-use Rattle.walk.proofs.Row.{joins, ending_begin, ending_take, ending_end}
+use Rattle.walk.proofs.Row.{next_joins, ending_begin, ending_take, ending_end}
 use Rattle.walk.proofs.due_within.Goals as goal
 
 pub loop-j-init : goal.loop-j-init
@@ -10,8 +8,7 @@ loop-j-init c =
 
 pub due_or-most-requires : goal.due_or-most-requires
 due_or-most-requires c =
-    let known = (unseen_one c.loop-j.invariant.others c.in-Some.ensures.steps c.requires.marks).0 in
-    joins (meant_sizes c.args.machine.now) known _ (search rules) c.requires.small
+    next_joins (meant_sizes c.args.machine.now) c.requires c.loop-j.invariant.others c.in-Some.ensures.steps
 
 pub loop-j-preserved : goal.loop-j-preserved
 loop-j-preserved c = ending_take c.loop-j.invariant c.in-Some.ensures.steps c.due_or-most.ensures

@@ -1,7 +1,6 @@
 use Rattle.std.proofs.Common.{rules}
 use Rattle.sheet.proofs.Entries.{meant_sizes}
-use Rattle.walk.proofs.Mask.{unseen_one}
-use Rattle.walk.proofs.Row.{joins, ticking_begin, ticking_push, ticking_end}
+use Rattle.walk.proofs.Row.{next_joins, ticking_begin, ticking_push, ticking_end}
 use Rattle.walk.proofs.tick.Goals as goal
 
 pub loop-j-init : goal.loop-j-init
@@ -9,8 +8,7 @@ loop-j-init c = rw c.into_iter-j-iterator.ensures.into_iter_gives (ticking_begin
 
 pub push-requires : goal.push-requires
 push-requires c =
-    let known = (unseen_one c.loop-j.invariant.others c.in-Some.ensures.steps c.requires.marks).0 in
-    joins (meant_sizes c.args.machine.now) known _ (search rules) c.requires.small
+    next_joins (meant_sizes c.args.machine.now) c.requires c.loop-j.invariant.others c.in-Some.ensures.steps
 
 pub loop-j-preserved : goal.loop-j-preserved
 loop-j-preserved c =

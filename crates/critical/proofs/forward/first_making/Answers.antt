@@ -1,7 +1,6 @@
-use Rattle.std.proofs.Common.{arith, ◌∙◌, sym}
+use Rattle.std.proofs.Common.{◌∙◌, sym}
 use Rattle.sheet.proofs.Entries.{meant_sizes}
-use Rattle.walk.proofs.Mask.{unseen_one}
-use Rattle.walk.proofs.Row.{joins}
+use Rattle.walk.proofs.Row.{next_joins}
 use Rattle.critical.proofs.Making.{seeking_begin, seeking_other, seeking_found, seeking_end}
 use Rattle.critical.proofs.forward.first_making.Goals as goal
 
@@ -10,8 +9,7 @@ loop-j-init c = rw c.into_iter-j-iterator.ensures.into_iter_gives seeking_begin
 
 pub makes_up-requires : goal.makes_up-requires
 makes_up-requires c =
-    let (known, may) = unseen_one c.loop-j.invariant.others c.in-Some.ensures.steps c.requires.marks in
-    joins (meant_sizes c.args.machine.now) known c.args.later.now (omega arith) c.requires.small
+    next_joins (meant_sizes c.args.machine.now) c.requires c.loop-j.invariant.others c.in-Some.ensures.steps
 
 pub returns-then-makes_up : goal.returns-then-makes_up
 returns-then-makes_up c =
