@@ -8,7 +8,8 @@ ghost use Rattle.model.specs.Limits.{longest_window};
 ghost use Rattle.model.specs.Machine.{machine_of};
 ghost use Rattle.model.specs.Reckon.{demand};
 ghost use Rattle.sheet.specs.Meant.{machine_meant};
-ghost use Rattle.level.specs.Inside.{Standing, Moved, machines_of, begun, LevelAt, LevelStands, LevelMoved, LevelOnward};
+ghost use Rattle.level.specs.Inside.{Standing, Moved, machines_of, begun};
+ghost use Rattle.level.specs.Inside.{LevelAt, LevelStands, LevelMoved, LevelOnward};
 
 pub use masked::MaskedSheet;
 use model::Way;
@@ -82,7 +83,7 @@ impl Level {
         requires { LevelStands masked.now self.old × (self.old.ticks < longest_window) }
         ensures { LevelOnward masked.now self.old self.new }
     {
-        if masked.lowest[self.phase] as usize <= self.machine {
+        if masked.lowest[self.phase] <= self.machine {
             self.walk(masked);
         }
         self.ticks += 1;

@@ -19,7 +19,7 @@ type Masks = [u32; HYPERPERIOD_MASKS];
 pub struct MaskedSheet<'a> {
     pub sheet: Sheet<'a>,
     pub masks: [Masks; 8],
-    pub lowest: [u32; HYPERPERIOD_MASKS],
+    pub lowest: [usize; HYPERPERIOD_MASKS],
     pub ghost marked: { Masked sheet.bytes.now masks },
     pub ghost lowered: { Lowest sheet.hyperperiod masks lowest },
 }
@@ -58,13 +58,13 @@ fn mark_machine(machine: &Machine<'_>, h: usize, masks: &mut Masks)
 }
 
 // The lowest machine with an instant at each tick below h.
-fn lowest_of(masks: &[Masks; 8], machines: usize, h: usize) -> [u32; HYPERPERIOD_MASKS]
+fn lowest_of(masks: &[Masks; 8], machines: usize, h: usize) -> [usize; HYPERPERIOD_MASKS]
     requires { (machines ≤ 8) × (h ≤ longest_hyperperiod) }
     ensures { Lowest h masks.now result }
 {
     let mut lowest = [0; HYPERPERIOD_MASKS];
     for t in 0..h {
-        lowest[t] = lowest_at(&masks[..machines], t) as u32;
+        lowest[t] = lowest_at(&masks[..machines], t);
     }
     lowest
 }
