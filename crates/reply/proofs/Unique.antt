@@ -6,8 +6,9 @@ use Rattle.std.specs.Prelude.{cond, eqb, Option, None, Some, Result, Ok, Err, �
 use Rattle.reply.specs.declared.Accepted.{Accepted}
 use Rattle.reply.specs.declared.Refusal.{Refusal}
 use Rattle.reply.specs.declared.Reason.{Reason}
-use Rattle.reply.specs.declared.Reason.TheVariants.{Length, LastFour, MachineCount, Trailer, Entry, Offset, Action, Deadline}
-use Rattle.reply.specs.declared.Reason.TheVariants.{Hyperperiod, UnknownMachine, Window, ShortOutput, ManyInstants}
+use Rattle.reply.specs.declared.Reason.TheVariants.{Length, LastFour, MachineCount, Trailer, Entry, Offset, Action}
+use Rattle.reply.specs.declared.Reason.TheVariants.{Deadline, Hyperperiod, UnknownMachine, Window, ShortOutput}
+use Rattle.reply.specs.declared.Reason.TheVariants.{ManyInstants}
 use Rattle.reply.specs.declared.Verdict.{Verdict}
 use Rattle.reply.specs.declared.Verdict.TheVariants.{Fits, Late, Open}
 use Rattle.reply.specs.Reply.{Reply, answer, refused, refusal_for}
@@ -62,7 +63,8 @@ handed_unique r q e = sym (back r) ∙ ap read_handed e ∙ back q
     back None = refl
     back (Some r) = ap Some (read_back r)
 
-module _ {A : Type 0} (paper : Result A Reason → Reply) (read : Reply → Result A Reason) (back : (r : Result A Reason) → read (paper r) ≡ r) where
+module _ {A : Type 0} (paper : Result A Reason → Reply) (read : Reply → Result A Reason)
+    (back : (r : Result A Reason) → read (paper r) ≡ r) where
   unique_by : {reply : Reply} (r q : Result A Reason) → paper r ≡ reply → paper q ≡ reply → r ≡ q
   unique_by r q e g = sym (back r) ∙ ap read (e ∙ sym g) ∙ back q
 

@@ -2,8 +2,9 @@
 use Rattle.std.specs.Prelude.{ℕ, Bool, true, false, List, Option, None, Some}
 use Rattle.reply.specs.declared.Refusal.{Refusal}
 use Rattle.reply.specs.declared.Reason.{Reason}
-use Rattle.reply.specs.declared.Reason.TheVariants.{Length, LastFour, MachineCount, Trailer, Entry, Offset, Action, Deadline}
-use Rattle.reply.specs.declared.Reason.TheVariants.{Hyperperiod, UnknownMachine, Window, ShortOutput, ManyInstants}
+use Rattle.reply.specs.declared.Reason.TheVariants.{Length, LastFour, MachineCount, Trailer, Entry, Offset, Action}
+use Rattle.reply.specs.declared.Reason.TheVariants.{Deadline, Hyperperiod, UnknownMachine, Window, ShortOutput}
+use Rattle.reply.specs.declared.Reason.TheVariants.{ManyInstants}
 
 -- a refusal: its number in the table, and its place
 abbrev pub refusal : ℕ → ℕ → ℕ → Refusal
