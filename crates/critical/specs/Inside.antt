@@ -1,18 +1,10 @@
 -- What the contracts of inner functions cite, and no reader has to believe.
-use Rattle.std.specs.Prelude.{ℕ, ◌≡◌, Bool, true, ◌&&◌, List, eqb, length, Option, None, Some}
+use Rattle.std.specs.Prelude.{ℕ, ◌≡◌, Bool, true, ◌&&◌, List, eqb, Option, None, Some}
 use Rattle.model.specs.declared.Way.TheVariants.{Back}
 use Rattle.model.specs.Machine.{Machine, count, action_of}
-use Rattle.model.specs.Legal.{Pair}
 use Rattle.model.specs.Inside.{may_trigger}
-use Rattle.model.specs.Critical.{critical}
 use Rattle.model.specs.Search.{smallest_below}
-use Rattle.sheet.specs.Meant.{meant}
 use Rattle.walk.specs.Inside.{Marks, brought}
-use Rattle.rows.specs.declared.MaskedWindow.{MaskedWindow}
-
--- the critical sequence of the ticks of a window that the masks mark
-abbrev pub masked_sequence : MaskedWindow → List Pair
-masked_sequence w = critical (meant w.machine) w.from (length w.masks.now)
 
 -- the next pair may leave state q: any at first, and then the last pair's sink
 abbrev pub may_leave : Option ℕ → ℕ → Bool

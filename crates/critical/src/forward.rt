@@ -1,10 +1,11 @@
 // The walk forward: at each tick the smallest action that makes up what is left of the bound.
-ghost use Rattle.std.specs.Prelude.{◌≡◌, length};
+ghost use Rattle.std.specs.Prelude.{◌≡◌};
+ghost use Rattle.model.specs.Critical.{critical};
 ghost use Rattle.sheet.specs.Meant.{meant};
 ghost use Rattle.walk.specs.Inside.{Ready, Joins};
 ghost use Rattle.rows.specs.Inside.{Rows};
 ghost use Rattle.critical.specs.Critical.{words_of};
-ghost use Rattle.critical.specs.Inside.{masked_sequence, may_leave, makes_up, FirstMaking};
+ghost use Rattle.critical.specs.Inside.{may_leave, makes_up, FirstMaking};
 
 use crate::LONGEST_WORDS;
 use arrayvec::ArrayVec;
@@ -15,16 +16,18 @@ use walk::{Marked, Row, WINDOW_MASKS};
 
 // Traces the critical sequence of a window's ticks by its rows: two words a pair.
 pub(crate) fn trace(
-    window: &MaskedWindow<'_>,
+    masked: &MaskedWindow<'_>,
     rows: &[Row; WINDOW_MASKS],
 ) -> ArrayVec<u32, LONGEST_WORDS>
-    requires { Rows (meant window.now.machine) window.now.from (length window.now.masks.now) 0 rows.now }
-    ensures { result.items ≡ words_of (masked_sequence window.now) }
+    requires { Rows (meant masked.now.window.machine) masked.now.window.from masked.now.window.length 0 rows.now }
+    ensures { result.items ≡ words_of (critical (meant masked.now.window.machine)
+        masked.now.window.from masked.now.window.length) }
 {
+    let window = &masked.window;
     let mut pairs = ArrayVec::new();
     let mut leaves = None;
     let mut left = walk::top(&rows[0], window.machine.states());
-    for (k, &mask) in window.masks.iter().enumerate() {
+    for (k, &mask) in masked.masks.iter().enumerate() {
         if let Some(j) = first_making(&window.machine, mask, leaves, left, &rows[k + 1]) {
             left -= window.machine.cost(j);
             leaves = Some(window.machine.action(j).sink);

@@ -56,11 +56,10 @@ pub fn sequence_of(
 {
     let length = window.length as usize;
     let masks = walk::window_masks(&window.machine, window.from, length);
-    let window = MaskedWindow {
-        machine: window.machine,
-        from: window.from,
+    let masked = MaskedWindow {
+        window: *window,
         masks: &masks[..length],
     };
-    rows::lay_rows(&window, rows);
-    forward::trace(&window, rows)
+    rows::lay_rows(&masked, rows);
+    forward::trace(&masked, rows)
 }
