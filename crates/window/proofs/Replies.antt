@@ -1,17 +1,20 @@
 -- The refusal of a question, by what has been found out on the way.
-use Prim.Native.Nat.{ℕ, ◌≤◌, ◌<◌}
+use Prim.Native.Nat.{ℕ, ◌+◌, ◌≤◌, ◌<◌}
 use mathlib.Core.Path.{◌≡◌, sym, ◌∙◌, ap}
-use mathlib.Core.Bool.{true, false}
+use mathlib.Core.Bool.{true, false, ◌&&◌}
 use mathlib.Core.List.{List}
+use lib.Dec.{leb}
 use Rattle.std.specs.Prelude.{None, Some}
-use borrow.Author.Tests.{lt-ltb, le-ltb}
+use borrow.Author.Tests.{leb-true, lt-ltb, le-ltb}
+use Rattle.model.specs.Limits.{longest_window}
+use Rattle.model.proofs.Tests.{both_true}
 use Rattle.reply.specs.declared.Refusal.{Refusal}
 use Rattle.reply.specs.Reply.{refusal, unless}
-use Rattle.reply.proofs.Refusals.{or_else_refused, or_else_clear}
+use Rattle.reply.proofs.Refusals.{unless_none, or_else_none, or_else_refused, or_else_clear}
 use Rattle.sheet.specs.Format.{machine_count}
 use Rattle.rules.specs.Check.{refusal_of}
 use Rattle.rules.proofs.Stages.{passed_on}
-use Rattle.window.specs.Window.{window_in_range, rule11, question_refusal}
+use Rattle.window.specs.Window.{window_in_range, rule10, rule11, question_refusal}
 
 module _ (b : List ℕ) (i s f : ℕ) where
   pub question_sheet : {r : Refusal} → Some r ≡ refusal_of b → Some r ≡ question_refusal b i s f
@@ -37,5 +40,14 @@ module _ (b : List ℕ) (i s f : ℕ) where
   pub question_kept : None ≡ refusal_of b → i < machine_count b → true ≡ window_in_range s f
       → None ≡ question_refusal b i s f
   question_kept e l w = ap (λ t. unless t (refusal 11 0 0)) w ∙ in_sheet e l
+
+-- a question that is not refused has a window that runs forward
+pub question_forward : (b : List ℕ) (i s f : ℕ) → question_refusal b i s f ≡ None → s ≤ f
+unfolding question_refusal
+question_forward b i s f e =
+    let (sheet, rest) = or_else_none (refusal_of b) _ e in
+    let (machine, window) = or_else_none (rule10 b i) (rule11 s f) rest in
+    let (two, near) = both_true (leb s f && leb f (s + longest_window)) _ (unless_none _ (refusal 11 0 0) window) in
+    leb-true s f (both_true (leb s f) _ two).0
 
 pub ruleset questions = (passed_on, question_sheet, question_machine, question_window, question_kept)
