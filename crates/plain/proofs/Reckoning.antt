@@ -19,31 +19,31 @@ use Rattle.model.proofs.Most.{most_cong}
 use Rattle.model.proofs.Plain.{at_first_none, at_first_is}
 use Rattle.plain.specs.Inside.{FirstInstant}
 
-module _ (m : Machine) (k t f : ℕ) (span : InRange t f) where
-  -- an action without an instant in [t, f) asks nothing
-  pub asks_none : FirstInstant m k t f None → 0 ≡ at_first m (requested m) t (f - t) k
-  asks_none none = sym (at_first_none m (requested m) k t (f - t) (λ v a c. none v a (omega (arith, span.forward))))
+module _ (m : Machine) (k t n : ℕ) where
+  -- an action without an instant in [t, t + n) asks nothing
+  pub asks_none : FirstInstant m k t n None → 0 ≡ at_first m (requested m) t n k
+  asks_none none = sym (at_first_none m (requested m) k t n none)
 
   -- else, at the first one, its cost and what its sink asks of the rest of the window
-  module _ (sizes : MachineSizes m) (known : k < count m) (u : ℕ) (first : FirstInstant m k t f (Some u))
+  module _ (sizes : MachineSizes m) (known : k < count m) (u : ℕ) (first : FirstInstant m k t n (Some u))
       {own sink v : ℕ} (costs : own ≡ cost m k) (leads : sink ≡ (action_of m k).sink)
-      (rest : v ≡ best m (requested m) (u + 1) (f - (u + 1)) (eqb sink)) where
-    pub asks_fits : own + v < 2 ^ 32
-    asks_fits =
+      (rest : v ≡ best m (requested m) (u + 1) (t + n - (u + 1)) (eqb sink)) where
+    pub asks_fits : InRange t (t + n) → own + v < 2 ^ 32
+    asks_fits span =
         let cost_limit : (j : ℕ) → j < count m → cost m j ≤ largest_cost = λ j l. (sizes_cost m sizes j l).1 in
         omega (
           arith,
           cost_limit k known,
-          best_limit m (requested m) largest_cost (λ p. cost_limit p.action) (u + 1) (f - (u + 1)) (eqb sink),
+          best_limit m (requested m) largest_cost (λ p. cost_limit p.action) (u + 1) (t + n - (u + 1)) (eqb sink),
           span.short,
           first.0,
         )
 
-    pub asks_first : own + v ≡ at_first m (requested m) t (f - t) k
+    pub asks_first : own + v ≡ at_first m (requested m) t n k
     asks_first =
         let (from, before, now, none) = first in
         ap₂ ◌+◌ costs (rw (leads, add-one) at rest)
-        ∙ sym (at_first_is m (requested m) k t (f - t) u (f - suc u) (omega (arith, span.forward)) from now none)
+        ∙ sym (at_first_is m (requested m) k t n u (t + n - suc u) (omega arith) from now none)
 
 -- a machine asks all its states: a first pair may leave each of them
 pub states_ask : (m : Machine) (s n : ℕ) → MachineSizes m

@@ -1,5 +1,5 @@
 // Instants of a machine's actions, found tick by tick.
-ghost use Rattle.std.specs.Prelude.{◌≡◌, ◌-◌, ◌<◌};
+ghost use Rattle.std.specs.Prelude.{◌≡◌, ◌<◌};
 ghost use Rattle.model.specs.Machine.{count};
 ghost use Rattle.sheet.specs.Meant.{meant};
 ghost use Rattle.plain.specs.Plain.{has_instant, instants};
@@ -8,12 +8,12 @@ ghost use Rattle.plain.specs.Inside.{FirstInstant};
 use sheet::Machine;
 use window::MachineWindow;
 
-// The first instant of action k in [t, to), if there is one.
-pub(crate) fn first_instant(machine: &Machine<'_>, k: usize, t: u32, to: u32) -> Option<u32>
-    requires { k < count (meant machine.now) }
-    ensures { FirstInstant (meant machine.now) k t to result }
+// The first instant of action k in a window, if there is one.
+pub(crate) fn first_instant(window: &MachineWindow<'_>, k: usize) -> Option<u32>
+    requires { k < count (meant window.now.machine) }
+    ensures { FirstInstant (meant window.now.machine) k window.now.from window.now.length result }
 {
-    (t..to).find(|&u| machine.has_instant(k, u))
+    (window.from..window.from + window.length).find(|&t| window.machine.has_instant(k, t))
 }
 
 // Whether some action of the machine has an instant at t.

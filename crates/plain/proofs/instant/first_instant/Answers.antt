@@ -9,7 +9,7 @@ use Rattle.plain.proofs.instant.first_instant.Goals as goal
 
 pub returns : goal.returns
 returns c =
-    let m = meant c.args.machine.now in
+    let m = meant c.args.window.now.machine in
     let k = c.args.k in
     first_from_Range _ _ _ _ (Instant m k) (λ u. Instant m k u → ⊥) c.find.ensures.ran
     (λ x q h. let e : is_instant m k x ≡ true = search rules in (is_instant_law m k x).0 e)
