@@ -1,16 +1,36 @@
 -- A refusal in words, from its pieces, and that no second line satisfies the contract.
 use Prim.Native.Nat.{ℕ, ◌+◌, ◌≤◌, ◌<◌}
-use mathlib.Core.Path.{◌≡◌}
+use mathlib.Core.Path.{◌≡◌, refl}
 use mathlib.Core.List.{List, [], ◌∷◌, ◌++◌, append_assoc, append-nil}
 use native.Mathlib.Omega.{arith}
-use borrow.Author.Tests.{lt-ltb, le-ltb}
+use borrow.Author.Tests.{ne_eqb, lt-ltb, le-ltb}
 use lib.ListN.{length}
-use Rattle.std.specs.Prelude.{codes}
+use Rattle.std.specs.Prelude.{codes, ◌≢◌}
 use Rattle.reply.specs.declared.Refusal.{Refusal}
 use Rattle.reply.specs.Printed.{printed_length, printed}
 use Rattle.reply.proofs.Printing.{printed_unique}
 use Rattle.text.specs.Text.{spaced}
-use Rattle.explain.specs.Words.{place, explanation}
+use Rattle.explain.specs.Words.{reason, place, explanation}
+
+-- a number that no refusal has gives no reason
+pub no_reason : (n : ℕ) → n ≢ 1 → n ≢ 2 → n ≢ 3 → n ≢ 4 → n ≢ 5 → n ≢ 6 → n ≢ 7 → n ≢ 8 → n ≢ 9 → n ≢ 10 → n ≢ 11
+    → n ≢ 12 → n ≢ 14 → reason n ≡ []
+no_reason n a b c d e f g h i j k l m =
+    rw (
+      ne_eqb n 1 a,
+      ne_eqb n 2 b,
+      ne_eqb n 3 c,
+      ne_eqb n 4 d,
+      ne_eqb n 5 e,
+      ne_eqb n 6 f,
+      ne_eqb n 7 g,
+      ne_eqb n 8 h,
+      ne_eqb n 9 i,
+      ne_eqb n 10 j,
+      ne_eqb n 11 k,
+      ne_eqb n 12 l,
+      ne_eqb n 14 m,
+    ) refl
 
 -- pieces put one after another
 two_pieces : (text a b : List ℕ) → (text ++ a) ++ b ≡ text ++ (a ++ b ++ [])

@@ -17,10 +17,17 @@ use Rattle.reply.specs.declared.Refusal.{Refusal}
 use Rattle.reply.specs.declared.Reason.{Reason}
 use Rattle.reply.specs.Reply.{answer, ◌or_else◌, ◌otherwise◌}
 use Rattle.reply.specs.Answer.{paper}
+use Rattle.reply.proofs.Refusals.{or_else_refused}
 use Rattle.reply.proofs.Unique.{answer_unique}
 use Rattle.sheet.specs.Format.{decode}
 use Rattle.window.specs.Window.{question_refusal}
 use Rattle.plain.specs.Plain.{instants, plain_refusal, plain_reply}
+
+-- the refusal of a call, where the question is refused
+pub refusal_question : (b : List ℕ) (i s f : ℕ) {r : Refusal} → question_refusal b i s f ≡ Some r
+    → plain_refusal b i s f ≡ Some r
+unfolding plain_refusal
+refusal_question b i s f e = or_else_refused _ e
 
 or_else_nothing : (x : Option Refusal) → x or_else None ≡ x
 or_else_nothing None = refl
