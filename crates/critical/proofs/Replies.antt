@@ -1,11 +1,12 @@
 -- The reply of `critical` and the lent words afterwards: what they are where the call is refused and where the sequence
 -- is found, and that no second result and no second memory satisfies the contract.
-use Prim.Native.Nat.{ℕ, ◌-◌, ◌*◌, ◌/◌, ◌≤◌, ◌<◌}
+use Prim.Native.Nat.{ℕ, ◌-◌, ◌*◌, ◌≤◌, ◌<◌}
 use mathlib.Core.Path.{◌≡◌, refl, sym, ◌∙◌, ap, ap₂, subst}
 use mathlib.Core.List.{List, [], ◌∷◌, ◌++◌}
 use Rattle.std.specs.Prelude.{None, Some, Result, Ok, Err, IfOk}
+use Rattle.std.specs.List.{flat_map}
 use native.Mathlib.Omega.{arith}
-use lib.ListN.{length, drop}
+use lib.ListN.{length, length-map, drop}
 use borrow.Author.Tests.{le-leb, lt-leb}
 use Rattle.model.specs.Machine.{machine_of}
 use Rattle.model.specs.Sizes.{MachineSizes}
@@ -28,7 +29,8 @@ use Rattle.window.specs.Window.{question_refusal}
 use Rattle.window.specs.Inside.{IsWindowOf}
 use Rattle.critical.specs.Critical.{sequence_of, words_of, critical_refusal, critical_reply, critical_words}
 use Rattle.critical.specs.Critical.{pairs_in, HoldsCritical}
-use Rattle.critical.proofs.Words.{words_length, words_pairs}
+use Rattle.critical.specs.Inside.{arrays_of}
+use Rattle.critical.proofs.Words.{words_length, arrays_words, words_pairs}
 
 module _ (b : List ℕ) (i s f lent : ℕ) where
   pub refusal_question : {r : Refusal} → question_refusal b i s f ≡ Some r → critical_refusal b i s f lent ≡ Some r
@@ -76,29 +78,33 @@ module _ (b : List ℕ) (i s f : ℕ) (words : List ℕ) where
       → Meets b i s f words words (Err r)
   question_refused r e = refused r (refusal_question b i s f (length words) (sym e))
 
-  -- where the question is proper, and these are the words of the sequence
-  module _ {w : MachineWindow} {pairs : List ℕ} (kept : None ≡ question_refusal b i s f) (is : IsWindowOf b i s f w)
-      (found : pairs ≡ words_of (critical (meant w.machine) w.from w.length)) where
-    pairs_are : pairs ≡ words_of (sequence_of b i s f)
-    pairs_are = found ∙ ap words_of (window_sequence is)
+  -- where the question is proper, and these are the sequence's arrays, and the same end to end
+  module _ {w : MachineWindow} {pairs : List (List ℕ)} {found : List ℕ} (kept : None ≡ question_refusal b i s f)
+      (is : IsWindowOf b i s f w) (traced : pairs ≡ arrays_of (critical (meant w.machine) w.from w.length))
+      (flat : found ≡ flat_map (λ p. p) pairs) where
+    pairs_are : pairs ≡ arrays_of (sequence_of b i s f)
+    pairs_are = traced ∙ ap arrays_of (window_sequence is)
 
-    twice : length pairs ≡ 2 * length (sequence_of b i s f)
-    twice = ap length pairs_are ∙ words_length (sequence_of b i s f)
+    words_are : found ≡ words_of (sequence_of b i s f)
+    words_are = flat ∙ ap (flat_map (λ p. p)) pairs_are ∙ arrays_words (sequence_of b i s f)
 
-    pub sequence_short : length words < length pairs → Meets b i s f words words (Err ShortOutput)
+    twice : length found ≡ 2 * length (sequence_of b i s f)
+    twice = ap length words_are ∙ words_length (sequence_of b i s f)
+
+    pub sequence_short : length words < length found → Meets b i s f words words (Err ShortOutput)
     sequence_short l = refused ShortOutput (refusal_short b i s f (length words) (sym kept) (omega (arith, twice)))
 
     -- they are copied to the front
-    pub sequence_found : {needed : ℕ} {copied : List ℕ} → needed ≡ length pairs → copied ≡ pairs
-        → needed ≤ length words → Meets b i s f words (copied ++ drop needed words) (Ok (needed / 2))
-    sequence_found {needed} {copied} e g room =
-        let number : needed / 2 ≡ length (sequence_of b i s f) = omega (arith, twice) in
+    pub sequence_found : {number : ℕ} {copied : List ℕ} → number ≡ length pairs → copied ≡ found
+        → length found ≤ length words → Meets b i s f words (copied ++ drop (length found) words) (Ok number)
+    sequence_found {number} {copied} counted e room =
+        let all : number ≡ length (sequence_of b i s f) = counted ∙ ap length pairs_are ∙ length-map _ _ in
         let clear = refusal_none b i s f (length words) (sym kept) (omega (arith, twice)) in
-        let written : copied ++ drop needed words ≡ in_front (words_of (sequence_of b i s f)) words =
-        rw (e, g, pairs_are) refl in
-        let read : pairs_in (needed / 2) (copied ++ drop needed words) ≡ sequence_of b i s f =
-        ap₂ pairs_in number written ∙ words_pairs (sequence_of b i s f) _ in (
-          ap (λ v. answer 0 (v ∷ [])) number ∙ otherwise_answered _ clear,
+        let written : copied ++ drop (length found) words ≡ in_front (words_of (sequence_of b i s f)) words =
+        rw (e, words_are) refl in
+        let read : pairs_in number (copied ++ drop (length found) words) ≡ sequence_of b i s f =
+        ap₂ pairs_in all written ∙ words_pairs (sequence_of b i s f) _ in (
+          ap (λ v. answer 0 (v ∷ [])) all ∙ otherwise_answered _ clear,
           (rw clear written, rw read (sequence_is is)),
         )
 

@@ -1,5 +1,5 @@
 -- The walk forward: what has been written and what is left make up the critical sequence.
-use Prim.Native.Nat.{ℕ, suc, ◌+◌, ◌-◌, ◌*◌, ◌≤◌, ◌<◌}
+use Prim.Native.Nat.{ℕ, suc, ◌+◌, ◌-◌, ◌≤◌, ◌<◌}
 use mathlib.Core.Path.{◌≡◌, refl, sym, ◌∙◌, ap}
 use mathlib.Core.Bool.{true, false}
 use mathlib.Core.List.{List, [], ◌∷◌, ◌++◌, append_assoc, append-nil}
@@ -17,23 +17,22 @@ use Rattle.model.proofs.Names.{closed_onward}
 use Rattle.model.proofs.Critical.{best_waits, first_best_waits, first_best_takes}
 use Rattle.walk.specs.Inside.{Marks}
 use Rattle.rows.specs.Inside.{Rows}
-use Rattle.critical.specs.Critical.{words_of}
-use Rattle.critical.specs.Inside.{makes_at, FirstMaking}
+use Rattle.critical.specs.Inside.{arrays_of, makes_at, FirstMaking}
 use Rattle.critical.proofs.Making.{allows, makes_is, making_smallest}
 
 -- what is left of the critical sequence from tick t on, for n ticks
-abbrev onward : Machine → ℕ → ℕ → Option ℕ → List ℕ
-onward m t n leaves = words_of (first_best m (requested m) t n (allows m leaves))
+abbrev onward : Machine → ℕ → ℕ → Option ℕ → List (List ℕ)
+onward m t n leaves = arrays_of (first_best m (requested m) t n (allows m leaves))
 
--- the walk has come to tick s + k: these words are written, and what is left of the bound is `left`
-pub record Tracing (m : Machine) (s n k : ℕ) (leaves : Option ℕ) (left : ℕ) (pairs : List ℕ) : Type 0 where
+-- the walk has come to tick s + k: these pairs are written, and what is left of the bound is `left`
+pub record Tracing (m : Machine) (s n k : ℕ) (leaves : Option ℕ) (left : ℕ) (pairs : List (List ℕ)) : Type 0 where
   pub early : k ≤ n
-  pub few : length pairs ≤ 2 * k
+  pub few : length pairs ≤ k
   pub begins : (q : ℕ) → allows m leaves q ≡ true → may_begin m q ≡ true
   pub goal : left ≡ best m (requested m) (s + k) (n - k) (allows m leaves)
-  pub words : pairs ++ onward m (s + k) (n - k) leaves ≡ words_of (critical m s n)
+  pub sequence : pairs ++ onward m (s + k) (n - k) leaves ≡ arrays_of (critical m s n)
 
-pub tracing_begin : {m : Machine} {s n bound : ℕ} {pairs : List ℕ} → pairs ≡ [] → bound ≡ request m s n
+pub tracing_begin : {m : Machine} {s n bound : ℕ} {pairs : List (List ℕ)} → pairs ≡ [] → bound ≡ request m s n
     → Tracing m s n 0 None bound pairs
 unfolding critical request
 tracing_begin {s = s} {n = n} none e =
@@ -44,11 +43,11 @@ tracing_begin {s = s} {n = n} none e =
       few = omega (arith, ap length none);
       begins = λ q b. b;
       goal = rw (start, all) e;
-      words = rw (none, start, all) refl;
+      sequence = rw (none, start, all) refl;
     }
 
 -- one tick, s + k, with its mask and the rows
-module _ {m : Machine} (closed : Closed m) {s n k mask left : ℕ} {leaves : Option ℕ} {pairs : List ℕ}
+module _ {m : Machine} (closed : Closed m) {s n k mask left : ℕ} {leaves : Option ℕ} {pairs : List (List ℕ)}
     {rows : List (List ℕ)} (h : Tracing m s n k leaves left pairs) (laid : Rows m s n 0 rows) (more : k < n)
     (marks : Marks m (s + k) mask) where
   ticks : n - k ≡ suc (n - (k + 1))
@@ -60,8 +59,8 @@ module _ {m : Machine} (closed : Closed m) {s n k mask left : ℕ} {leaves : Opt
   goal_is : left ≡ best m (requested m) (s + k) (suc (n - (k + 1))) (allows m leaves)
   goal_is = rw ticks at h.goal
 
-  words_are : pairs ++ onward m (s + k) (suc (n - (k + 1))) leaves ≡ words_of (critical m s n)
-  words_are = rw ticks at h.words
+  sequence_is : pairs ++ onward m (s + k) (suc (n - (k + 1))) leaves ≡ arrays_of (critical m s n)
+  sequence_is = rw ticks at h.sequence
 
   makes : (i : ℕ) → i < count m
       → makes_at m (s + k) leaves left (get_or rows (k + 1) []) i
@@ -79,11 +78,11 @@ module _ {m : Machine} (closed : Closed m) {s n k mask left : ℕ} {leaves : Opt
         few = omega (arith, h.few);
         begins = h.begins;
         goal = rw next (goal_is ∙ best_waits m (requested m) (s + k) (n - (k + 1)) (allows m leaves) none);
-        words =
+        sequence =
             rw next
-            (ap (λ σ. pairs ++ words_of σ)
+            (ap (λ σ. pairs ++ arrays_of σ)
             (sym (first_best_waits m (requested m) (s + k) (n - (k + 1)) (allows m leaves) none))
-            ∙ words_are);
+            ∙ sequence_is);
       }
 
   module _ {j : ℕ} (first : FirstMaking m mask leaves left (get_or rows (k + 1) []) (Some j)) where
@@ -113,27 +112,24 @@ module _ {m : Machine} (closed : Closed m) {s n k mask left : ℕ} {leaves : Opt
         let may : may_trigger m (s + k) j ≡ true = (both_true _ _ triggers).0 in
         closed_onward closed j known (both_true (may_begin m (action_of m j).source) _ may).0
 
-    pub tracing_takes : {own sink : ℕ} {action new : List ℕ} → own ≡ cost m j → sink ≡ (action_of m j).sink
-        → action ≡ pairs ++ (j ∷ []) → new ≡ action ++ ((s + k) ∷ [])
-        → Tracing m s n (k + 1) (Some sink) (left - own) new
-    unfolding words_of
-    tracing_takes costs leads e f =
+    pub tracing_takes : {own sink : ℕ} {new : List (List ℕ)} → own ≡ cost m j → sink ≡ (action_of m j).sink
+        → new ≡ pairs ++ ((j ∷ (s + k) ∷ []) ∷ []) → Tracing m s n (k + 1) (Some sink) (left - own) new
+    tracing_takes costs leads e =
         record {
           early = omega arith;
-          few = omega (arith, h.few, simp length-append at (ap length e), simp length-append at (ap length f));
+          few = omega (arith, h.few, simp length-append at (ap length e));
           begins = λ q b. rw (← (eqb-true _ q b), leads) sink_begins;
           goal = rw (next, leads) (omega (arith, parts));
-          words =
-              rw (f, e, next, leads)
-              (append_assoc (pairs ++ (j ∷ [])) ((s + k) ∷ []) _
-              ∙ append_assoc pairs (j ∷ []) _
-              ∙ ap (λ σ. pairs ++ words_of σ)
+          sequence =
+              rw (e, next, leads)
+              (append_assoc pairs ((j ∷ (s + k) ∷ []) ∷ []) _
+              ∙ ap (λ σ. pairs ++ arrays_of σ)
               (sym (first_best_takes m (requested m) (s + k) (n - (k + 1)) (allows m leaves) j known made before))
-              ∙ words_are);
+              ∙ sequence_is);
         }
 
-pub tracing_end : {m : Machine} {s n k left : ℕ} {leaves : Option ℕ} {pairs : List ℕ}
-    → Tracing m s n k leaves left pairs → n ≤ k → pairs ≡ words_of (critical m s n)
-unfolding first_best words_of
+pub tracing_end : {m : Machine} {s n k left : ℕ} {leaves : Option ℕ} {pairs : List (List ℕ)}
+    → Tracing m s n k leaves left pairs → n ≤ k → pairs ≡ arrays_of (critical m s n)
+unfolding first_best
 tracing_end {n = n} {k = k} {pairs = pairs} h l =
-    let over : n - k ≡ 0 = omega arith in sym (append-nil pairs) ∙ (rw over at h.words)
+    let over : n - k ≡ 0 = omega arith in sym (append-nil pairs) ∙ (rw over at h.sequence)

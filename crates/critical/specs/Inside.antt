@@ -1,10 +1,15 @@
 -- What the contracts of inner functions cite, and no reader has to believe.
-use Rattle.std.specs.Prelude.{ℕ, ◌≡◌, Bool, true, ◌&&◌, List, eqb, Option, None, Some}
+use Rattle.std.specs.Prelude.{ℕ, ◌≡◌, Bool, true, ◌&&◌, List, [], ◌∷◌, map, eqb, Option, None, Some}
 use Rattle.model.specs.declared.Way.TheVariants.{Back}
 use Rattle.model.specs.Machine.{Machine, count, action_of}
+use Rattle.model.specs.Legal.{Pair}
 use Rattle.model.specs.Inside.{may_trigger}
 use Rattle.model.specs.Search.{smallest_below}
 use Rattle.walk.specs.Inside.{Marks, brought}
+
+-- an array (action, instant) for each pair: end to end they are the words of the sequence
+abbrev pub arrays_of : List Pair → List (List ℕ)
+arrays_of σ = map (λ p. p.action ∷ p.instant ∷ []) σ
 
 -- the next pair may leave state q: any at first, and then the last pair's sink
 abbrev pub may_leave : Option ℕ → ℕ → Bool

@@ -4,23 +4,22 @@ ghost use Rattle.model.specs.Critical.{critical};
 ghost use Rattle.sheet.specs.Meant.{meant};
 ghost use Rattle.walk.specs.Inside.{Ready, Joins};
 ghost use Rattle.rows.specs.Inside.{Rows};
-ghost use Rattle.critical.specs.Critical.{words_of};
-ghost use Rattle.critical.specs.Inside.{may_leave, makes_up, FirstMaking};
+ghost use Rattle.critical.specs.Inside.{arrays_of, may_leave, makes_up, FirstMaking};
 
-use crate::LONGEST_WORDS;
+use crate::LONGEST_SEQUENCE;
 use arrayvec::ArrayVec;
 use model::Way;
 use rows::MaskedWindow;
 use sheet::Machine;
 use walk::{Marked, Row, WINDOW_MASKS};
 
-// Traces the critical sequence of a window's ticks by its rows: two words a pair.
+// Traces the critical sequence of a window's ticks by its rows: an array of action and instant for each pair.
 pub(crate) fn trace(
     masked: &MaskedWindow<'_>,
     rows: &[Row; WINDOW_MASKS],
-) -> ArrayVec<u32, LONGEST_WORDS>
+) -> ArrayVec<[u32; 2], LONGEST_SEQUENCE>
     requires { Rows (meant masked.now.window.machine) masked.now.window.from masked.now.window.length 0 rows.now }
-    ensures { result.items ≡ words_of (critical (meant masked.now.window.machine)
+    ensures { result.items ≡ arrays_of (critical (meant masked.now.window.machine)
         masked.now.window.from masked.now.window.length) }
 {
     let window = &masked.window;
@@ -31,8 +30,7 @@ pub(crate) fn trace(
         if let Some(j) = first_making(&window.machine, mask, leaves, left, &rows[k + 1]) {
             left -= window.machine.cost(j);
             leaves = Some(window.machine.action(j).sink);
-            pairs.push(j as u32);
-            pairs.push(window.from + k as u32);
+            pairs.push([j as u32, window.from + k as u32]);
         }
     }
     pairs

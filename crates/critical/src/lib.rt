@@ -10,7 +10,8 @@ ghost use Rattle.model.specs.Critical.{critical};
 ghost use Rattle.reply.specs.Answer.{paper};
 ghost use Rattle.sheet.specs.Format.{decode};
 ghost use Rattle.sheet.specs.Meant.{meant};
-ghost use Rattle.critical.specs.Critical.{words_of, critical_reply, critical_words, HoldsCritical};
+ghost use Rattle.critical.specs.Critical.{critical_reply, critical_words, HoldsCritical};
+ghost use Rattle.critical.specs.Inside.{arrays_of};
 
 use arrayvec::ArrayVec;
 use model::LONGEST_WINDOW;
@@ -19,8 +20,11 @@ use rows::MaskedWindow;
 use walk::{Row, WINDOW_MASKS};
 use window::MachineWindow;
 
-// The words of the longest sequence: two for each pair, and at most one pair for each tick.
-pub const LONGEST_WORDS: usize = 2 * LONGEST_WINDOW as usize;
+// The pairs of the longest sequence: at most one for each tick.
+pub const LONGEST_SEQUENCE: usize = LONGEST_WINDOW as usize;
+
+// The words of the longest sequence: two for each pair.
+pub const LONGEST_WORDS: usize = 2 * LONGEST_SEQUENCE;
 
 // The critical sequence of a machine and the window from `from` to `to`: its number of pairs, and in
 // `words` two words a pair, the action and the instant; words beyond stay as they were. Or the
@@ -39,20 +43,21 @@ pub fn critical(
     let window = window::window_of(sheet, machine, from, u64::from(to))?;
     let mut rows = [[0; 16]; WINDOW_MASKS];
     let pairs = sequence_of(&window, &mut rows);
-    let needed = pairs.len();
+    let found = pairs.as_flattened();
+    let needed = found.len();
     if words.len() < needed {
         return Err(Reason::ShortOutput);
     }
-    words[..needed].copy_from_slice(&pairs);
-    Ok((needed / 2) as u32)
+    words[..needed].copy_from_slice(found);
+    Ok(pairs.len() as u32)
 }
 
-// The words of a window's critical sequence. What `rows` held is lost.
+// The pairs of a window's critical sequence, each an array of action and instant. What `rows` held is lost.
 pub fn sequence_of(
     window: &MachineWindow<'_>,
     rows: &mut [Row; WINDOW_MASKS],
-) -> ArrayVec<u32, LONGEST_WORDS>
-    ensures { result.items ≡ words_of (critical (meant window.now.machine) window.now.from window.now.length) }
+) -> ArrayVec<[u32; 2], LONGEST_SEQUENCE>
+    ensures { result.items ≡ arrays_of (critical (meant window.now.machine) window.now.from window.now.length) }
 {
     let length = window.length as usize;
     let masks = walk::window_masks(&window.machine, window.from, length);

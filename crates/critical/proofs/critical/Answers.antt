@@ -1,4 +1,4 @@
-use Rattle.std.proofs.Common.{◌∙◌, arith}
+use Rattle.std.proofs.Common.{arith}
 use Rattle.std.proofs.lemmas.Result.{err_from_is_err_and}
 use Rattle.critical.proofs.Replies.{question_refused, sequence_short, sequence_found}
 use Rattle.critical.proofs.critical.Goals as goal
@@ -12,13 +12,15 @@ returns-in_err-window c =
 pub returns-then-words-needed : goal.returns-then-words-needed
 returns-then-words-needed c =
     let called = rw c.from.ensures at c.in_ok-window.ensures in
-    let met = sequence_short _ _ _ _ c.args.words.now called.refused called.window c.sequence_of-pairs.ensures
+    let flat = rw c.deref.ensures.0 at c.as_flattened-found.ensures.value in
+    let met = sequence_short _ _ _ _ c.args.words.now called.refused called.window c.sequence_of-pairs.ensures flat
     (omega arith) in
     record { says = met.0; writes = met.1.0; promises = tt }
 
 pub returns : goal.returns
 returns c =
     let called = rw c.from.ensures at c.in_ok-window.ensures in
-    let met = sequence_found _ _ _ _ c.args.words.now called.refused called.window c.sequence_of-pairs.ensures
-    c.len-needed.ensures.value (c.copy_from_slice.ensures.after ∙ c.deref.ensures.0) c.if-words-needed.false in
+    let flat = rw c.deref.ensures.0 at c.as_flattened-found.ensures.value in
+    let met = sequence_found _ _ _ _ c.args.words.now called.refused called.window c.sequence_of-pairs.ensures flat
+    c.len.ensures.value c.copy_from_slice.ensures.after c.if-words-needed.false in
     record { says = met.0; writes = met.1.0; promises = met.1.1 }

@@ -1,4 +1,4 @@
-use Rattle.std.proofs.Common.{◌<◌, length, ap, arith}
+use Rattle.std.proofs.Common.{ap, arith}
 use Rattle.model.specs.declared.Action.{Action}
 use Rattle.model.proofs.Accepted.{sizes_closed}
 use Rattle.sheet.proofs.Entries.{meant_sizes}
@@ -42,14 +42,6 @@ overflow_cast-j c =
     let known = making_known c.in-Some.ensures (masked.marked.at _ c.loop-k-test.true) in
     omega (arith, known, (meant_sizes masked.window.machine).actions)
 
-pub push-requires : goal.push-requires
-push-requires c =
-    let room : length c.loop-k.pairs.items < 4096 = omega arith in (omega arith, room)
-
-pub push-requires-in-Some : goal.push-requires-in-Some
-push-requires-in-Some c =
-    let room : length c.push.new.self.items < 4096 = omega arith in (omega arith, room)
-
 pub loop-k-preserved : goal.loop-k-preserved
 loop-k-preserved c =
     let masked = c.args.masked.now in
@@ -59,8 +51,7 @@ loop-k-preserved c =
       | in-Some w ↦
           rw (w.pairs-is, w.leaves-is, w.left-is)
           (tracing_takes closed c.loop-k.invariant c.requires (omega arith) marks w.in-Some.ensures
-          w.cost-left.ensures (ap (λ (a : Action). a.sink) w.action.ensures) w.push.ensures.items
-          w.push-in-Some.ensures.items)
+          w.cost-left.ensures (ap (λ (a : Action). a.sink) w.action.ensures) w.push.ensures.items)
       | in_default w ↦
           rw (w.pairs-is, w.leaves-is, w.left-is)
           (tracing_waits closed c.loop-k.invariant c.requires (omega arith) marks w.in_default.ensures)
