@@ -43,14 +43,13 @@ fn put_place(text: &mut ArrayString<256>, refusal: Refusal)
     ensures says { text.new.bytes ≡ text.old.bytes ++ place refusal }
     ensures short { array_string_len text.new ≤ array_string_len text.old + 42 }
 {
-    if refusal.number < 5 || 8 < refusal.number {
-        return;
-    }
-    text.push_str(", at machine");
-    put_spaced(text, &[refusal.first]);
-    if 7 <= refusal.number {
-        text.push_str(", action");
-        put_spaced(text, &[refusal.second]);
+    if matches!(refusal.number, 5..=8) {
+        text.push_str(", at machine");
+        put_spaced(text, &[refusal.first]);
+        if 7 <= refusal.number {
+            text.push_str(", action");
+            put_spaced(text, &[refusal.second]);
+        }
     }
 }
 
