@@ -87,18 +87,18 @@ fn walk_to(window: &MachineWindow<'_>) -> Front
     ensures { IsFront (meant window.now.machine) window.now.from window.now.length result }
 {
     let machine = &window.machine;
-    let masks = walk::window_masks(machine, window.from, window.length as usize);
+    let length = window.length as usize;
+    let masks = walk::window_masks(machine, window.from, length);
     let mut row = [0; 16];
     let mut last = LastInstant {
         ticks: 0,
         mask: masks[0],
         row,
     };
-    for n in 0..window.length {
-        let mask = masks[n as usize];
+    for (n, &mask) in masks[..length].iter().enumerate() {
         if mask != 0 {
             last = LastInstant {
-                ticks: n,
+                ticks: n as u32,
                 mask,
                 row,
             };

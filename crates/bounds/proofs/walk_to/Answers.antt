@@ -1,6 +1,7 @@
-use Rattle.std.proofs.Common.{arith, ◌≡◌}
+use Rattle.std.proofs.Common.{arith, ◌≡◌, length-take}
 use Rattle.sheet.proofs.Entries.{meant_sizes}
 use Rattle.walk.proofs.Front.{row_zeros, row_ready, row_ticked, row_idle, last_begin, last_instant, last_none}
+use Rattle.bounds.proofs.Walking.{front_marks}
 use Rattle.bounds.proofs.walk_to.Goals as goal
 use Rattle.bounds.proofs.walk_to.Goals.{then-mask-ne0, else-mask-ne0}
 
@@ -11,14 +12,14 @@ loop-n-init c =
 
 pub tick-row-requires : goal.tick-row-requires
 tick-row-requires c =
-    let marked = c.window_masks-masks.ensures.at c.loop-n.n (omega arith) in
-    row_ready (meant_sizes c.args.window.now.machine) c.loop-n.invariant.row (omega arith) marked
+    let (inside, marked) = front_marks _ c.window_masks-masks.ensures c.loop-n-test.true in
+    row_ready (meant_sizes c.args.window.now.machine) c.loop-n.invariant.row (omega (arith, inside)) marked
 
 pub loop-n-preserved : goal.loop-n-preserved
 loop-n-preserved c =
     let sizes = meant_sizes c.args.window.now.machine in
     let record { row = row; last = last } = c.loop-n.invariant in
-    let marked = c.window_masks-masks.ensures.at c.loop-n.n (omega arith) in
+    let marked = (front_marks _ c.window_masks-masks.ensures c.loop-n-test.true).1 in
     elim c.if-mask-ne0.branch [
       | then-mask-ne0 w ↦
           rw (w.row-is, w.last-is)
@@ -36,5 +37,6 @@ loop-n-preserved c =
 
 pub returns : goal.returns
 returns c =
-    let all : c.args.window.now.length ≡ c.loop-n.n = omega arith in
+    let all : c.args.window.now.length ≡ c.loop-n.n =
+    omega (arith, length-take c.args.window.now.length c.window_masks-masks.result) in
     rw all c.loop-n.invariant
