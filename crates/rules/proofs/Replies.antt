@@ -36,7 +36,8 @@ module _ (b : List ℕ) where
     where
       cases : (y : Option Refusal) → refusal_of b ≡ y → (refusal_of b ≡ None) × Counted b a.machines a.hyperperiod
       cases None q =
-          let d : answer 0 (a.machines ∷ a.hyperperiod ∷ []) ≡ answer 0 (machine_count b ∷ hyperperiod (decode b) ∷ []) =
+          let d : answer 0 (a.machines ∷ a.hyperperiod ∷ []) ≡
+          answer 0 (machine_count b ∷ hyperperiod (decode b) ∷ []) =
           sym (ap paper e) ∙ p ∙ ap (λ y. y otherwise answer 0 (machine_count b ∷ hyperperiod (decode b) ∷ [])) q in
           (q, record { accepted = not_refused b q; count = cc; period = cc })
       cases (Some y) q =

@@ -1,6 +1,6 @@
 // An accepted sheet, and the machines in it. A machine's action, cost and divisor are those of its entry, by which the
-// rules read a sheet that is not accepted yet. That an action has the number j is a clause and no type: it is known at the
-// call, and for one call.
+// rules read a sheet that is not accepted yet. That an action has the number j is a clause and no type: it is known at
+// the call, and for one call.
 ghost use Rattle.sheet.specs.Inside.{Accepted, Counted};
 
 use crate::Entry;
