@@ -12,7 +12,8 @@ pub use machine_window::MachineWindow;
 use model::{LAST_TICK, LONGEST_WINDOW};
 use reply::Reason;
 
-// The window from `from` to `to` of a machine, or why a question about it is refused: 1 to 9, then 10 and 11.
+// The window from `from` to `to` of a machine, or why a question about it is refused: 1 to 9, then 10 and 11. The four
+// arguments stand apart, since public calls are given them so.
 #[tactic(auto, using(crate::proofs::Replies::questions))]
 pub fn window_of<'a>(
     sheet: &'a [u8],
