@@ -88,7 +88,9 @@ impl Call {
             CallKind::Check => saglubitan::check(sheet).map(accepted),
             CallKind::Request => saglubitan::request(sheet, machine, from, to).map(number),
             CallKind::Demand => saglubitan::demand(sheet, machine, from, to).map(number),
-            CallKind::Table => saglubitan::table(sheet, machine, from, to, words).map(|()| filled()),
+            CallKind::Table => saglubitan::table(sheet, machine, from, to, words).map(
+                |()| filled(),
+            ),
             CallKind::Critical => saglubitan::critical(sheet, machine, from, to, words).map(number),
             CallKind::Plain => saglubitan::plain(sheet, machine, from, to).map(number),
             CallKind::Judge => saglubitan::judge(sheet).map(judged),
