@@ -117,7 +117,10 @@ fn divisors(rt: &impl Print) -> io::Result<()> {
             .stay(4, 1, 2)
             .stay(6, 1, 2)
             .one_machine(1, 0, 2),
-    )?;
+    )
+}
+
+fn hyperperiods(rt: &impl Print) -> io::Result<()> {
     check(
         rt,
         "periods 32 and 64",
@@ -264,6 +267,7 @@ fn main(rt: HostRuntime) -> io::Result<()> {
     pairs(&rt)?;
     orders(&rt)?;
     divisors(&rt)?;
+    hyperperiods(&rt)?;
     states(&rt)?;
     times(&rt)?;
     sizes(&rt)?;
