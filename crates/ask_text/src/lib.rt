@@ -76,6 +76,10 @@ pub fn ask(sheet: &[u8], question: Question, out: &mut [u8]) -> Printed
     ensures writes { out.new ≡ printed 65536 (ask_text sheet.now question) out.old }
     ensures within { IsPrefixLen result.length out.new }
 {
+    // before the question is answered, which takes long
+    if out.len() < 65536 {
+        return Printed::NOTHING;
+    }
     let mut text = ArrayString::new();
     let refused = put_answer(&mut text, sheet, question).err();
     if let Some(reason) = refused {

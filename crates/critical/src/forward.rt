@@ -61,7 +61,7 @@ fn makes_up(machine: &Machine<'_>, j: usize, leaves: Option<usize>, left: u32, l
     ensures { result ≡ makes_up (meant machine.now) leaves left later.now j }
 {
     may_leave(leaves, machine.action(j).source)
-        && walk::brought(machine, j, Way::Back, later) == left
+        && walk::brought(&machine.entry, j, Way::Back, later) == left
 }
 
 // Whether the next pair may leave a state: any at first, and then the last pair's sink.

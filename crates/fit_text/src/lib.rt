@@ -72,6 +72,10 @@ pub fn fit(sheet: &[u8], out: &mut [u8]) -> Printed
     ensures writes { out.new ≡ printed 512 (fit_text sheet.now) out.old }
     ensures within { IsPrefixLen result.length out.new }
 {
+    // before the sheet is judged, which takes long
+    if out.len() < 512 {
+        return Printed::NOTHING;
+    }
     let mut text = ArrayString::new();
     let accepted = rules::accept(sheet);
     match &accepted {

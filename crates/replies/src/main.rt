@@ -8,11 +8,10 @@ mod call;
 mod replied;
 mod words;
 
-use arrayvec::ArrayVec;
 use call::Call;
 use std::io;
 use std::io::{Read, Write};
-use words::{GUARDS, guard, put_words, read_word};
+use words::{GUARDS, REPLY_SIZE, guard, put_words, read_word};
 
 fn main(rt: HostRuntime) {
     // nothing is left to be said where no call can be read or no reply can be written
@@ -23,20 +22,21 @@ fn answer_calls<R: Read, W: Write>(input: &mut R, output: &mut W) -> io::Result<
     // the room for a sheet, for the lent words with their guards, and for what is written of a call
     let mut sheet = [0; 4096];
     let mut words = [0; 4128];
-    let mut bytes = ArrayVec::new();
+    let mut bytes = [0; 16536];
     for _ in 0..read_word(input)? {
         let call = Call::read(input)?;
         let sheet = &mut sheet[..call.size];
         input.read_exact(sheet)?;
         let words = &mut words[..call.lent + 2 * GUARDS];
-        guard(words);
-        let reply = call.reply(sheet, &mut words[GUARDS..GUARDS + call.lent]);
-        bytes.clear();
-        put_words(&reply, &mut bytes)?;
+        let mut used = REPLY_SIZE;
         if call.lends_words() {
-            put_words(words, &mut bytes)?;
+            guard(words);
+            used += 4 * words.len();
         }
-        output.write_all(bytes.as_slice())?;
+        let reply = call.reply(sheet, &mut words[GUARDS..GUARDS + call.lent]);
+        put_words(&reply, &mut bytes[..REPLY_SIZE]);
+        put_words(words, &mut bytes[REPLY_SIZE..used]);
+        output.write_all(&bytes[..used])?;
         output.flush()?;
     }
     Ok(())

@@ -109,6 +109,14 @@ pub struct Printed {
     pub refused: Option<Reason>,
 }
 
+impl Printed {
+    // Where too little is lent.
+    pub const NOTHING: Printed = Printed {
+        length: 0,
+        refused: None,
+    };
+}
+
 // What can be asked about a machine and a window.
 #[derive(Clone, Copy, Debug, PartialEq, Eq)]
 pub enum Kind {

@@ -83,10 +83,7 @@ pub fn print<const CAP: usize>(
 {
     let bytes = text.as_str().as_bytes();
     if out.len() < CAP {
-        return Printed {
-            length: 0,
-            refused: None,
-        };
+        return Printed::NOTHING;
     }
     out[..bytes.len()].copy_from_slice(bytes);
     Printed {

@@ -7,7 +7,7 @@ ghost use Rattle.std.specs.Prelude.{◌≡◌, ◌+◌, ◌^◌, ◌≤◌, ◌<
 ghost use Rattle.model.specs.Machine.{count, divisor as machine_divisor};
 ghost use Rattle.model.specs.Reckon.{most};
 ghost use Rattle.model.specs.Inside.{InRange, may_trigger, behind, figure};
-ghost use Rattle.sheet.specs.Meant.{meant};
+ghost use Rattle.sheet.specs.Meant.{entry_meant, meant};
 ghost use Rattle.walk.specs.Inside.{bit, Marks, AllMarked, WindowMarked, Ready, Joins, pushed, Ticked};
 ghost use Rattle.walk.specs.Inside.{due_or, DueWithin, brought as way_brought};
 
@@ -15,7 +15,7 @@ mod marked;
 
 pub use marked::Marked;
 use model::{Action, LONGEST_WINDOW, Way};
-use sheet::Machine;
+use sheet::{Entry, Machine};
 
 // A mask for each tick of the longest window, and one for its end.
 pub const WINDOW_MASKS: usize = LONGEST_WINDOW as usize + 1;
@@ -98,17 +98,19 @@ fn push(machine: &Machine<'_>, j: usize, way: Way, old: &Row, row: &mut Row)
     row[ahead] = row[ahead].max(brings(&action, way, old));
 }
 
-// What action j brings to the state that it leads to.
-pub fn brought(machine: &Machine<'_>, j: usize, way: Way, row: &Row) -> u32
-    requires { Joins (meant machine.now) j row.now }
-    ensures { result ≡ way_brought way (meant machine.now) j row.now }
+// What action j of an entry's machine brings to the state that it leads to: rules 1 to 6 are enough for the entry, and a
+// row may go on behind its figures.
+pub fn brought(entry: &Entry<'_>, j: usize, way: Way, row: &[u32]) -> u32
+    requires joins { Joins (entry_meant entry.now) j row.now }
+    requires long { 16 ≤ length row.now }
+    ensures { result ≡ way_brought way (entry_meant entry.now) j row.now }
 {
-    brings(&machine.action(j), way, row)
+    brings(&entry.action(j), way, row)
 }
 
 // What an action that has been read brings: the figure that it leaves, and its cost.
-fn brings(action: &Action, way: Way, row: &Row) -> u32
-    requires leaves { behind way action.now < 16 }
+fn brings(action: &Action, way: Way, row: &[u32]) -> u32
+    requires leaves { behind way action.now < length row.now }
     requires fits { figure row.now (behind way action.now) + action.now.time < 2 ^ 32 }
     ensures { result ≡ figure row.now (behind way action.now) + action.now.time }
 {
