@@ -1,5 +1,5 @@
 // The walk forward: at each tick the smallest action that makes up what is left of the bound.
-ghost use Rattle.std.specs.Prelude.{◌≡◌};
+ghost use Rattle.std.specs.Prelude.{◌≡◌, []};
 ghost use Rattle.model.specs.Critical.{critical};
 ghost use Rattle.sheet.specs.Meant.{meant};
 ghost use Rattle.walk.specs.Inside.{Ready, Joins};
@@ -17,13 +17,14 @@ use walk::{Marked, Row, WINDOW_MASKS};
 pub(crate) fn trace(
     masked: &MaskedWindow<'_>,
     rows: &[Row; WINDOW_MASKS],
-) -> ArrayVec<[u32; 2], LONGEST_SEQUENCE>
-    requires { Rows (meant masked.now.window.machine) masked.now.window.from masked.now.window.length 0 rows.now }
-    ensures { result.items ≡ arrays_of (critical (meant masked.now.window.machine)
+    pairs: &mut ArrayVec<[u32; 2], LONGEST_SEQUENCE>,
+)
+    requires laid { Rows (meant masked.now.window.machine) masked.now.window.from masked.now.window.length 0 rows.now }
+    requires none { pairs.old.items ≡ [] }
+    ensures { pairs.new.items ≡ arrays_of (critical (meant masked.now.window.machine)
         masked.now.window.from masked.now.window.length) }
 {
     let window = &masked.window;
-    let mut pairs = ArrayVec::new();
     let mut leaves = None;
     let mut left = walk::top(&rows[0], window.machine.states());
     for (k, &mask) in masked.masks.iter().enumerate() {
@@ -33,7 +34,6 @@ pub(crate) fn trace(
             pairs.push([j as u32, window.from + k as u32]);
         }
     }
-    pairs
 }
 
 // The smallest action of the mask that makes up what is left, if one does.

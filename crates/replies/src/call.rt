@@ -72,8 +72,14 @@ impl Call {
         })
     }
 
-    pub(crate) fn lends_words(&self) -> bool {
-        matches!(self.kind, CallKind::Table | CallKind::Critical)
+    // How many of so many words are written after the reply: all, where they are lent.
+    pub(crate) fn written(&self, words: usize) -> usize
+        ensures { result ≤ words }
+    {
+        match self.kind {
+            CallKind::Table | CallKind::Critical => words,
+            _ => 0,
+        }
     }
 
     // Makes the call; a table or a critical sequence may write the words.

@@ -11,7 +11,7 @@ mod words;
 use call::Call;
 use std::io;
 use std::io::{Read, Write};
-use words::{GUARDS, REPLY_SIZE, guard, put_words, read_word};
+use words::{GUARDS, guard, read_word, write_words};
 
 fn main(rt: HostRuntime) {
     // nothing is left to be said where no call can be read or no reply can be written
@@ -28,16 +28,10 @@ fn answer_calls<R: Read, W: Write>(input: &mut R, output: &mut W) -> io::Result<
         let sheet = &mut sheet[..call.size];
         input.read_exact(sheet)?;
         let words = &mut words[..call.lent + 2 * GUARDS];
-        let mut used = REPLY_SIZE;
-        if call.lends_words() {
-            guard(words);
-            used += 4 * words.len();
-        }
+        let written = call.written(words.len());
+        guard(&mut words[..written]);
         let reply = call.reply(sheet, &mut words[GUARDS..GUARDS + call.lent]);
-        put_words(&reply, &mut bytes[..REPLY_SIZE]);
-        put_words(words, &mut bytes[REPLY_SIZE..used]);
-        output.write_all(&bytes[..used])?;
-        output.flush()?;
+        write_words(output, &reply, &words[..written], &mut bytes)?;
     }
     Ok(())
 }

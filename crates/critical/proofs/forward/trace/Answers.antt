@@ -11,12 +11,12 @@ use Rattle.critical.proofs.forward.trace.Goals.{in-Some, in_default}
 pub loop-k-init : goal.loop-k-init
 loop-k-init c =
     let sizes = meant_sizes c.args.masked.now.window.machine in
-    tracing_begin c.new-pairs.ensures (rows_top sizes c.requires c.states.ensures c.top-left.ensures)
+    tracing_begin c.requires.none (rows_top sizes c.requires.laid c.states.ensures c.top-left.ensures)
 
 pub first_making-requires : goal.first_making-requires
 first_making-requires c =
     let masked = c.args.masked.now in
-    back_ready (meant_sizes masked.window.machine) (c.requires.at _ (omega arith) (omega arith)) (omega arith)
+    back_ready (meant_sizes masked.window.machine) (c.requires.laid.at _ (omega arith) (omega arith)) (omega arith)
     (masked.marked.at _ c.loop-k-test.true)
 
 pub cost-left-requires : goal.cost-left-requires
@@ -29,7 +29,7 @@ overflow_sub-left c =
     omega (
       arith,
       c.cost-left.ensures,
-      parts closed c.loop-k.invariant c.requires (omega arith) (masked.marked.at _ c.loop-k-test.true)
+      parts closed c.loop-k.invariant c.requires.laid (omega arith) (masked.marked.at _ c.loop-k-test.true)
           c.in-Some.ensures,
     )
 
@@ -50,11 +50,11 @@ loop-k-preserved c =
     elim c.match-first_making.branch [
       | in-Some w ↦
           rw (w.pairs-is, w.leaves-is, w.left-is)
-          (tracing_takes closed c.loop-k.invariant c.requires (omega arith) marks w.in-Some.ensures
+          (tracing_takes closed c.loop-k.invariant c.requires.laid (omega arith) marks w.in-Some.ensures
           w.cost-left.ensures (ap (λ (a : Action). a.sink) w.action.ensures) w.push.ensures.items)
       | in_default w ↦
           rw (w.pairs-is, w.leaves-is, w.left-is)
-          (tracing_waits closed c.loop-k.invariant c.requires (omega arith) marks w.in_default.ensures)
+          (tracing_waits closed c.loop-k.invariant c.requires.laid (omega arith) marks w.in_default.ensures)
     ]
 
 pub returns : goal.returns
