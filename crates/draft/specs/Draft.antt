@@ -1,7 +1,12 @@
 -- A draft as its bytes, and what is put behind them. Numbers are little-endian.
-use Rattle.std.specs.Prelude.{ℕ, ◌+◌, if◌then◌else◌, nat_le, List, [], ◌∷◌, ◌++◌, length, fold, codes}
+use Rattle.std.specs.Prelude.{ℕ, ◌+◌, if◌then◌else◌, nat_le, List, [], ◌∷◌, ◌++◌, length, take, fold, codes}
 use Rattle.std.specs.List.{concat}
 use Rattle.std.specs.Int.{w16, w32, to_le_bytes}
+use Rattle.draft.specs.declared.Draft.{Draft}
+
+-- the bytes that a draft is
+abbrev pub written : Draft → List ℕ
+written draft = take draft.used draft.bytes
 
 -- the bytes with more behind, where there is room for all of it: a draft holds 2200 at most
 infixl 30 ◌followed_by◌

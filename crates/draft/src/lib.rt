@@ -2,83 +2,90 @@
 // Definitions: specs/Draft.antt and Refused.antt.
 #![tactic(auto)]
 
-ghost use Rattle.std.specs.Prelude.{◌≡◌, ◌*◌, min, ℕ, List, [], ◌++◌, replicate, take, slice_set, Some};
-ghost use Rattle.draft.specs.Draft.{◌followed_by◌, ◌followed_by_fields◌, action, entry, trailer, pair};
+ghost use Rattle.std.specs.Prelude.{◌≡◌, ◌*◌, ◌%◌, ◌^◌, ◌≤◌, min, ℕ, List, [], ◌++◌, replicate, take, slice_set, Some};
+ghost use Rattle.std.specs.Int.{w16, to_le_bytes};
 ghost use Rattle.draft.specs.Refused.{refused_text};
 ghost use Rattle.reply.specs.Reply.{refusal_for};
 
-use arrayvec::ArrayVec;
 use reply::{Reason, Refusal};
 use std::fmt;
-use std::marker::Model;
 
-// The bytes of a sheet so far. Bytes past the room are dropped: no vector is that long.
-#[derive(Drop)]
+// The bytes of a sheet so far: the first `used` of the room. Bytes past the room are dropped: no vector is that long.
+#[derive(Clone, Copy)]
 pub struct Draft {
-    bytes: ArrayVec<u8, 2200>,
-}
-
-impl Model for Draft {
-    ghost Value = { List ℕ };
-
-    ghost view = { λ draft. draft.bytes.items };
+    pub bytes: [u8; 2200],
+    pub used: usize,
+    pub ghost in_room: { used ≤ 2200 },
 }
 
 impl Draft {
+    ghost use Rattle.draft.specs.Draft.{written, ◌followed_by◌, ◌followed_by_fields◌, action, entry, trailer, pair};
+
     pub fn new() -> Draft
-        ensures { result ≡ [] }
+        ensures none { written result ≡ [] }
+        ensures room { result.bytes ≡ replicate 2200 0 }
     {
-        Draft {
-            bytes: ArrayVec::new(),
-        }
+        Draft::zeros(0)
     }
 
     pub fn zeros(length: usize) -> Draft
-        ensures { result ≡ replicate (min length 2200) 0 }
+        ensures zeros { written result ≡ replicate (min length 2200) 0 }
+        ensures room { result.bytes ≡ replicate 2200 0 }
     {
-        let mut bytes = ArrayVec::from([0; 2200]);
-        bytes.truncate(length);
-        Draft { bytes }
+        Draft {
+            bytes: [0; 2200],
+            used: length.min(2200),
+        }
     }
 
     pub fn as_slice(&self) -> &[u8]
-        ensures { result.now ≡ self.now }
+        ensures { result.now ≡ written self.now }
     {
-        self.bytes.as_slice()
+        &self.bytes[..self.used]
     }
 
-    pub fn bytes(mut self, more: &[u8]) -> Draft
-        ensures { result ≡ self followed_by more.now }
+    pub fn bytes(self, more: &[u8]) -> Draft
+        ensures { written result ≡ written self followed_by more.now }
     {
-        let _ = self.bytes.try_extend_from_slice(more);
-        self
+        let used = self.used + more.len();
+        if used > self.bytes.len() {
+            return self;
+        }
+        let mut bytes = self.bytes;
+        bytes[self.used..used].copy_from_slice(more);
+        Draft { bytes, used }
     }
 
-    pub fn action(self, source: u8, sink: u8, period: u16, time: u16, deadline: u16) -> Draft
-        ensures { result ≡ self followed_by_fields action source sink period time deadline }
+    // Of a number that is longer than its field, here and below, the field has the low bytes.
+    pub fn action(self, source: u32, sink: u32, period: u32, time: u32, deadline: u32) -> Draft
+        ensures { written result ≡
+            written self followed_by_fields
+            action (source % 256) (sink % 256) (period % 65536) (time % 65536) (deadline % 65536) }
     {
-        self.bytes(&[source, sink])
-            .bytes(&period.to_le_bytes())
-            .bytes(&time.to_le_bytes())
-            .bytes(&deadline.to_le_bytes())
+        self.bytes(&[low_byte(source), low_byte(sink)])
+            .bytes(&two_bytes(period))
+            .bytes(&two_bytes(time))
+            .bytes(&two_bytes(deadline))
     }
 
     // An action from state 0 to state 0.
-    pub fn stay(self, period: u16, time: u16, deadline: u16) -> Draft
-        ensures { result ≡ self followed_by_fields action 0 0 period time deadline }
+    pub fn stay(self, period: u32, time: u32, deadline: u32) -> Draft
+        ensures { written result ≡
+            written self followed_by_fields action 0 0 (period % 65536) (time % 65536) (deadline % 65536) }
     {
         self.action(0, 0, period, time, deadline)
     }
 
-    pub fn entry(self, states: u8, initial: u8, actions: u8, offset: u32) -> Draft
-        ensures { result ≡ self followed_by_fields entry states initial actions offset }
+    pub fn entry(self, states: u32, initial: u32, actions: u32, offset: u32) -> Draft
+        ensures { written result ≡
+            written self followed_by_fields entry (states % 256) (initial % 256) (actions % 256) offset }
     {
-        self.bytes(&[states, initial, actions, 0])
+        self.bytes(&[low_byte(states), low_byte(initial), low_byte(actions), 0])
             .bytes(&offset.to_le_bytes())
     }
 
     pub fn trailer(self, offset: u32, machines: u32) -> Draft
-        ensures { result ≡ self followed_by_fields trailer offset machines }
+        ensures { written result ≡ written self followed_by_fields trailer offset machines }
     {
         self.bytes(&offset.to_le_bytes())
             .bytes(&machines.to_le_bytes())
@@ -86,23 +93,25 @@ impl Draft {
     }
 
     // The rest of a sheet of one machine, whose actions are written.
-    pub fn one_machine(self, states: u8, initial: u8, actions: u8) -> Draft
-        ensures { result ≡ self followed_by_fields (entry states initial actions 0 ++ trailer (8 * actions) 1) }
+    pub fn one_machine(self, states: u32, initial: u32, actions: u32) -> Draft
+        ensures { written result ≡
+            written self followed_by_fields
+            (entry (states % 256) (initial % 256) (actions % 256) 0 ++ trailer ((8 * actions) % 2 ^ 32) 1) }
     {
         self.entry(states, initial, actions, 0)
-            .trailer(8 * u32::from(actions), 1)
+            .trailer(actions.wrapping_mul(8), 1)
     }
 
     // The rest of a sheet of two machines of one state and one action each, whose actions are written.
     pub fn two_machines(self) -> Draft
-        ensures { result ≡ self followed_by_fields (entry 1 0 1 0 ++ entry 1 0 1 8 ++ trailer 16 2) }
+        ensures { written result ≡ written self followed_by_fields (entry 1 0 1 0 ++ entry 1 0 1 8 ++ trailer 16 2) }
     {
         self.entry(1, 0, 1, 0).entry(1, 0, 1, 8).trailer(16, 2)
     }
 
     // PAIR with another execution time in machine 0 and another deadline in machine 1's action 0.
-    pub fn pair_with(time: u16, deadline: u16) -> Draft
-        ensures { result ≡ pair time deadline }
+    pub fn pair_with(time: u32, deadline: u32) -> Draft
+        ensures { written result ≡ pair (time % 65536) (deadline % 65536) }
     {
         Draft::new()
             .stay(40, time, 40)
@@ -116,28 +125,53 @@ impl Draft {
     }
 
     pub fn pair() -> Draft
-        ensures { result ≡ pair 14 20 }
+        ensures { written result ≡ pair 14 20 }
     {
         Draft::pair_with(14, 20)
     }
 
-    // The draft with another byte at `at`, where it has one there.
-    pub fn with_byte(mut self, at: usize, value: u8) -> Draft
-        ensures { result ≡ slice_set self at value }
+    // The room with another byte at `at`, also behind the draft's end.
+    pub fn with_byte(self, at: usize, value: u32) -> Draft
+        ensures byte { written result ≡ slice_set (written self) at (value % 256) }
+        ensures room { result.bytes ≡ slice_set self.bytes at (value % 256) }
+        ensures used { result.used ≡ self.used }
     {
-        if let Some(byte) = self.bytes.get_mut(at) {
-            *byte = value;
+        let mut bytes = self.bytes;
+        if at < bytes.len() {
+            bytes[at] = low_byte(value);
         }
-        self
+        Draft {
+            bytes,
+            used: self.used,
+        }
     }
 
-    // The first `length` bytes of the draft alone.
-    pub fn cut(mut self, length: usize) -> Draft
-        ensures { result ≡ take length self }
+    // The first `length` bytes of the room, also behind the draft's end.
+    pub fn cut(self, length: usize) -> Draft
+        ensures first { written result ≡ take length self.bytes }
+        ensures shorter { length ≤ self.used → written result ≡ take length (written self) }
+        ensures room { result.bytes ≡ self.bytes }
     {
-        self.bytes.truncate(length);
-        self
+        let bytes = self.bytes;
+        Draft {
+            bytes,
+            used: length.min(bytes.len()),
+        }
     }
+}
+
+// The byte of a field for the number.
+fn low_byte(value: u32) -> u8
+    ensures { result ≡ value % 256 }
+{
+    (value % 256) as u8
+}
+
+// The two bytes of a field for the number.
+fn two_bytes(value: u32) -> [u8; 2]
+    ensures { result ≡ to_le_bytes w16 (value % 65536) }
+{
+    ((value % 65536) as u16).to_le_bytes()
 }
 
 // A refusal as a line has it.

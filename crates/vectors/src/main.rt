@@ -155,7 +155,7 @@ fn hyperperiods(rt: &impl Print) -> io::Result<()> {
 }
 
 // An action from state 0, its machine still to come.
-fn leading_to(sink: u8) -> Draft {
+fn leading_to(sink: u32) -> Draft {
     Draft::new().action(0, sink, 2, 1, 1)
 }
 
@@ -181,7 +181,7 @@ fn states(rt: &impl Print) -> io::Result<()> {
 }
 
 // One machine of one state and one action.
-fn alone(period: u16, time: u16, deadline: u16) -> Draft {
+fn alone(period: u32, time: u32, deadline: u32) -> Draft {
     Draft::new()
         .stay(period, time, deadline)
         .one_machine(1, 0, 1)
@@ -213,7 +213,7 @@ fn wide(mut draft: Draft, machines: u8, actions: u8) -> Draft {
     }
     let size = 8 * u32::from(actions);
     for machine in 0..machines {
-        draft = draft.entry(1, 0, actions, size * u32::from(machine));
+        draft = draft.entry(1, 0, u32::from(actions), size * u32::from(machine));
     }
     let machines = u32::from(machines);
     draft.trailer(size * machines, machines)
