@@ -4,7 +4,7 @@ use mathlib.Core.Path.{◌≡◌, refl, sym, ◌∙◌, ap}
 use mathlib.Core.Bool.{Bool, true, false, not}
 use Rattle.std.specs.Prelude.{Option, None, Some}
 use lib.Dec.{eqb}
-use borrow.Author.Tests.{not-true, eq-eqb, ne_eqb, leb-true}
+use borrow.Author.Tests.{not-true, not-false, eq-eqb, ne_eqb, leb-true}
 use Rattle.reply.specs.declared.Refusal.{Refusal}
 use Rattle.reply.specs.Reply.{Reply, refused, unless, ◌or_else◌, ◌otherwise◌}
 use Rattle.reply.specs.Lent.{rule12}
@@ -12,6 +12,9 @@ use Rattle.reply.specs.Lent.{rule12}
 -- what the code's test t says of a rule's test
 pub broken_here : (t : Bool) {test : Bool} (r : Refusal) → t ≡ test → not t ≡ true → unless test r ≡ Some r
 broken_here t {test} r e n = ap (λ x. unless x r) (sym e ∙ not-true t n)
+
+pub kept_here : (t : Bool) {test : Bool} (r : Refusal) → t ≡ test → not t ≡ false → unless test r ≡ None
+kept_here t {test} r e n = ap (λ x. unless x r) (sym e ∙ not-false t n)
 
 pub unless_none : (test : Bool) (r : Refusal) → unless test r ≡ None → test ≡ true
 unless_none true r e = refl
@@ -37,6 +40,10 @@ or_else_clear b e = ap (λ x. x or_else b) e
 pub or_else_none : (a b : Option Refusal) → a or_else b ≡ None → (a ≡ None) × (b ≡ None)
 or_else_none None b e = (refl, e)
 or_else_none (Some r) b e = cc
+
+pub or_else_assoc : (a b c : Option Refusal) → (a or_else b) or_else c ≡ a or_else (b or_else c)
+or_else_assoc None b c = refl
+or_else_assoc (Some r) b c = refl
 
 -- the refusal, or the answer where there is none
 pub otherwise_refused : {x : Option Refusal} {r : Refusal} (reply : Reply) → x ≡ Some r → refused r ≡ x otherwise reply
