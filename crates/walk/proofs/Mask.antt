@@ -2,13 +2,14 @@
 use Prim.Native.Nat.{ℕ, ◌+◌, ◌*◌, ◌/◌, ◌%◌, ◌^◌, ◌≤◌, ◌<◌, max}
 use mathlib.Core.Path.{◌≡◌, refl, sym, ◌∙◌, ap}
 use mathlib.Core.Bool.{true, false, ◌&&◌, true≢false, and-false}
-use mathlib.Core.List.{List}
+use mathlib.Core.List.{List, ◌++◌}
 use mathlib.Core.Logic.Iff
 use native.Mathlib.Omega.{arith}
 use native.Mathlib.Numerals.{add-one}
 use native.Mathlib.Nat.{le_antisymm, mod-add-div'}
 use native.Mathlib.Decide.{dec_lt, ℕ_discrete}
-use lib.ListN.{length, get_or}
+use lib.ListN.{length, get_or, set, length-set, get_or-append}
+use lib.Seq.{get_or-set_same, get_or-set_other}
 use lib.Bits.{bit_and}
 use Rattle.std.specs.Int.{bit_at, bit_not, trailing_zeros, w32}
 use Rattle.std.proofs.lemmas.Nat.{and_le_l}
@@ -21,7 +22,7 @@ use Rattle.model.proofs.Tests.{test_same}
 use Rattle.model.proofs.Names.{is_instant_law, off_divisor}
 use Rattle.model.proofs.Shift.{repeats_times}
 use Rattle.model.proofs.Most.{most_above, most_below}
-use Rattle.walk.specs.Inside.{bit, Marks, Lowest}
+use Rattle.walk.specs.Inside.{bit, Marks, AllMarked, WindowMarked, Lowest}
 use Rattle.walk.proofs.Binary.{bit_true, bit_false, binary_limit, binary_digit}
 use Rattle.walk.proofs.Binary.{binary_cong, binary_none, binary_some}
 
@@ -85,6 +86,36 @@ marks_remainder {m} h {t} again g =
 pub record Marking (m : Machine) (from n k : ℕ) (masks : List ℕ) : Type 0 where
   pub long : length masks ≡ n
   pub at : (i : ℕ) → i < k → Marks m (from + i) (get_or masks i 0)
+
+-- none, one more, and all of them
+module _ {m : Machine} {from n : ℕ} {masks : List ℕ} where
+  pub marking_begin : length masks ≡ n → Marking m from n 0 masks
+  marking_begin e = record { long = e; at = λ i l. absurd (omega arith) }
+
+  pub marking_more : {k : ℕ} (mask : ℕ) → Marking m from n k masks → k < length masks → Marks m (from + k) mask
+      → Marking m from n (k + 1) (set masks k mask)
+  marking_more {k} mask h l g =
+      record {
+        long = length-set masks k mask ∙ h.long;
+        at = λ i b.
+            elim (ℕ_discrete i k) [
+              | yes e ↦ rw (e, get_or-set_same masks k mask 0 l) g
+              | no d ↦ rw (get_or-set_other masks k i mask 0 d) (h.at i (omega arith))
+            ];
+      }
+
+  pub marking_end : {k : ℕ} → Marking m from n k masks → length masks ≤ k → AllMarked m from masks
+  marking_end h l = record { at = λ i b. h.at i (omega arith) }
+
+-- where the words for a window and its end are marked, the window is, whatever stands beyond them
+pub marked_window : {m : Machine} {from n : ℕ} {masks : List ℕ} (beyond : List ℕ) → AllMarked m from masks
+    → length masks ≡ n + 1 → WindowMarked m from n (masks ++ beyond)
+marked_window {m} {from} {n} {masks} beyond h e =
+    record {
+      at = λ k l.
+          let b : k < length masks = omega arith in
+          rw (get_or-append masks beyond 0 k b) (h.at k b);
+    }
 
 -- the lowest 1 of a word, as `trailing_zeros` finds it and a mask of the others takes it off
 pub lowest_taken : (left : ℕ) → 0 < left → left < 2 ^ 32

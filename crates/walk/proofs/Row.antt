@@ -5,11 +5,12 @@ use mathlib.Core.Bool.{true, false, cond}
 use mathlib.Core.List.{List}
 use native.Mathlib.Omega.{arith}
 use native.Mathlib.Numerals.{add-one}
+use native.Mathlib.Nat.{max-eq_left, max-eq_right, le_of_lt}
 use native.Mathlib.Decide.{ℕ_discrete}
 use lib.Dec.{eqb}
 use lib.ListN.{length, take, set, length-set}
-use lib.Seq.{get_or-set_same, get_or-set_other}
-use borrow.Author.Tests.{eq-eqb, ne_eqb, le-leb}
+use lib.Seq.{get_or-set_same, get_or-set_other, set-get_or}
+use borrow.Author.Tests.{eq-eqb, ne_eqb, le-leb, lt-leb}
 use Rattle.std.proofs.lemmas.List.{get_or-take}
 use Rattle.model.specs.declared.Way.{Way}
 use Rattle.model.specs.declared.Way.TheVariants.{On, Back}
@@ -42,17 +43,22 @@ module _ {m : Machine} (sizes : MachineSizes m) {k : ℕ} (l : k < count m) wher
   reached On = (sizes.action k l).sink
   reached Back = (sizes.action k l).source
 
--- the action that a mask gives next joins two states of a row that is ready for it
+-- an action of a machine joins two states of a row with small figures
+pub entry_joins : {m : Machine} {j : ℕ} → MachineSizes m → j < count m → (row : List ℕ)
+    → ((q : ℕ) → q < m.states → figure row q < 2 ^ 31) → Joins m j row
+entry_joins {m} {j} sizes l row small =
+    record {
+      below = l;
+      leaves = λ way. omega (arith, left_state sizes l way, sizes.states.1);
+      reaches = λ way. omega (arith, reached sizes l way, sizes.states.1);
+      fits = λ way. omega (arith, small _ (left_state sizes l way), (sizes_cost m sizes j l).1);
+    }
+
+-- so does the action that a mask gives next, at a row that is ready for it
 pub next_joins : {m : Machine} → MachineSizes m → {mask : ℕ} {row : List ℕ} → Ready m mask row
     → {j left k others : ℕ} → Unseen mask j left → Lowest left k others → Joins m k row
 next_joins sizes ready unseen next =
-    let known = (unseen_one unseen next ready.marks).0 in
-    record {
-      below = known;
-      leaves = λ way. omega (arith, left_state sizes known way, sizes.states.1);
-      reaches = λ way. omega (arith, reached sizes known way, sizes.states.1);
-      fits = λ way. omega (arith, ready.small _ (left_state sizes known way), (sizes_cost _ sizes _ known).1);
-    }
+    entry_joins sizes (unseen_one unseen next ready.marks).0 _ ready.small
 
 -- what it brings, where the action has been read
 pub brought_is : (way : Way) (m : Machine) (k : ℕ) (row : List ℕ) {a : Action} → a ≡ action_of m k
@@ -71,6 +77,13 @@ module _ (way : Way) (m : Machine) (k : ℕ) (old row : List ℕ) where
   pushed_is e f g =
       rw (f ∙ ap (ahead way) e, g ∙ brought_is way m k old e) refl
 
+  module _ {state v : ℕ} (e : state ≡ ahead way (action_of m k)) (f : v ≡ brought way m k old) where
+    pub pushed_more : figure row state < v → set row state v ≡ pushed way m k old row
+    pushed_more l = ap (set row state) (sym (max-eq_right (le_of_lt l))) ∙ rw (e, f)
+
+    pub pushed_same : v ≤ figure row state → row ≡ pushed way m k old row
+    pushed_same l = sym (set-get_or row state 0) ∙ ap (set row state) (sym (max-eq_left l)) ∙ rw (e, f)
+
   pushed_at : ahead way (action_of m k) < length row → (q : ℕ)
       → figure (pushed way m k old row) q
       ≡ max (figure row q) (cond (eqb (ahead way (action_of m k)) q) (brought way m k old) 0)
@@ -87,6 +100,18 @@ pub due_is : (m : Machine) (k : ℕ) (row : List ℕ) (ticks most : ℕ) {a : Ac
 due_is m k row ticks most e l =
     let due = le-leb (action_of m k).deadline ticks (omega (arith, l, ap (λ (x : Action). x.deadline) e)) in
     rw due (ap (max most) (brought_is On m k row e))
+
+-- what is due later doesn't, nor does what is less
+module _ (m : Machine) (k : ℕ) (row : List ℕ) (ticks most : ℕ) where
+  pub due_late : ticks < (action_of m k).deadline → most ≡ due_or m k row ticks most
+  due_late l = rw (lt-leb (action_of m k).deadline ticks l) (omega arith)
+
+  pub due_more : (action_of m k).deadline ≤ ticks → most < brought On m k row
+      → brought On m k row ≡ due_or m k row ticks most
+  due_more l h = rw (le-leb (action_of m k).deadline ticks l) (omega arith)
+
+  pub due_less : (action_of m k).deadline ≤ ticks → brought On m k row ≤ most → most ≡ due_or m k row ticks most
+  due_less l h = rw (le-leb (action_of m k).deadline ticks l) (omega arith)
 
 -- what action k brings at a tick at which it may not be triggered, and at one at which it may
 pub brings_idle : (way : Way) (m : Machine) (row : ℕ → ℕ) (q t k : ℕ) → may_trigger m t k ≡ false
