@@ -116,25 +116,34 @@ module _ (masked : MaskedSheet) {old at : Level} {j above : ℕ}
     },
   )
 
+  -- the sum before its machine's request is added, that request, and both
+  pub half_small : above ≤ 7 * largest_request
+  half_small =
+      let accepted = masked.sheet.counted.accepted in
+      let n : old.ticks + 1 ≤ longest_window = omega (arith, ready.1) in
+      let i : j ≤ machine_count masked.sheet.bytes.now = omega (arith, known, masked.sheet.counted.count) in
+      omega (
+        arith,
+        walking.half.sum,
+        requests_small accepted j old.start (old.ticks + 1) i n,
+        few masked known,
+      )
+
   module _ {new : Progress}
       (moved : Moved (machine_meant masked.sheet j) (mask_at masked.masks j old.phase) (progress_of at.progress j)
       new) where
     moved_on : ProgressAt (machine_meant masked.sheet j) old.start (old.ticks + 1) new
     moved_on = moved.on old.start old.ticks marks (walking.half.stands j (omega arith) l)
 
-    pub walking_small : above + new.top ≤ 8 * largest_request
-    walking_small =
+    pub half_top : new.top ≤ largest_request
+    half_top =
         let accepted = masked.sheet.counted.accepted in
         let n : old.ticks + 1 ≤ longest_window = omega (arith, ready.1) in
         let i : j < machine_count masked.sheet.bytes.now = omega (arith, known, masked.sheet.counted.count) in
-        omega (
-          arith,
-          walking.half.sum,
-          requests_small accepted j old.start (old.ticks + 1) (omega arith) n,
-          moved_on.top,
-          request_small accepted j old.start (old.ticks + 1) i n,
-          few masked known,
-        )
+        omega (arith, moved_on.top, request_small accepted j old.start (old.ticks + 1) i n)
+
+    pub walking_small : above + new.top ≤ 8 * largest_request
+    walking_small = omega (arith, half_small, half_top)
 
     half_more : HalfAt (machines_of masked) old.machine old.start old.ticks (j + 1) (set at.progress j new)
         (above + new.top)
