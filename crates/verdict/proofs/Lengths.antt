@@ -8,7 +8,7 @@ use Rattle.std.proofs.lemmas.Bool.Decides.{nat_tests}
 use native.Mathlib.Omega.{arith}
 use native.Mathlib.Numerals.{add-one}
 use borrow.Author.Tests.{le-leb, lt-leb}
-use Rattle.model.specs.Limits.{longest_window}
+use Rattle.model.specs.Limits.{longest_window, longest_hyperperiod}
 use Rattle.model.specs.Machine.{machine_of}
 use Rattle.model.specs.Reckon.{demand}
 use Rattle.model.specs.Verdict.{added, requests, closes, gives, Late, Open}
@@ -23,6 +23,14 @@ use Rattle.level.specs.declared.masked.MaskedSheet.{MaskedSheet}
 use Rattle.level.specs.Inside.{machines_of, LevelAt, LevelStands, LevelOnward}
 use Rattle.level.proofs.Moving.{sheet_sizes}
 use Rattle.level.proofs.Half.{largest_request, request_small, requests_small}
+
+-- a sheet has few machines, and a hyperperiod that is no longer than the longest
+module _ (masked : MaskedSheet) where
+  pub machines_few : {i : ℕ} → i < machine_count masked.sheet.bytes.now → i < 8
+  machines_few known = omega (arith, known, (few_machines masked.sheet.counted.accepted).1)
+
+  pub period_short : masked.sheet.hyperperiod ≤ longest_hyperperiod
+  period_short = omega (arith, masked.sheet.counted.period, masked.sheet.counted.accepted.hyperperiod.1)
 
 -- the lengths before n are done
 pub record Walked (masked : MaskedSheet) (i s n : ℕ) (level : Level) (room : ℕ) : Type 0 where
@@ -106,6 +114,9 @@ module _ {masked : MaskedSheet} {i s n before : ℕ} {old level : Level} (walked
         ∙ ap (max before) rest_is
         ∙ ap₂ (λ x y. max x (n - y)) walked.roomy here.figures.above
         ∙ rw e
+
+    pub room_now : room ≡ slack (machines_of masked) i s n
+    room_now = room_next
 
     pub length_late : {d : ℕ} → d ≡ demand (machine_of (machines_of masked) i) s n → room < d
         → Some (Late i s n d) ≡ gives (machines_of masked) i s

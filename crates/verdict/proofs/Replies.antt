@@ -15,6 +15,8 @@ use Rattle.reply.proofs.Unique.{verdict_unique}
 use Rattle.sheet.specs.Format.{machine_count, decode}
 use Rattle.sheet.specs.Inside.{Accepted}
 use Rattle.sheet.proofs.Decode.{decode_count}
+use Rattle.rules.specs.Check.{refusal_of}
+use Rattle.rules.proofs.Replies.{not_refused}
 use Rattle.verdict.specs.Judge.{verdict_reply}
 use Rattle.verdict.specs.Inside.{judgement, found}
 
@@ -37,6 +39,10 @@ pub verdict_safe : {b : List ℕ} {v : Verdict} → Accepted b → judgement v �
 verdict_safe {b} {v} accepted e f =
     let same : v ≡ Fits = cc in
     fits_safe accepted.sizes (sym e ∙ ap judgement same)
+
+-- the same of a sheet that no rule refuses
+pub given_safe : (b : List ℕ) → refusal_of b ≡ None → fits ≡ verdict (decode b) → Safe (decode b)
+given_safe b e f = fits_safe (not_refused b e).sizes (sym f)
 
 -- no second result satisfies the contract of `judge`
 pub judge_unique : (b : List ℕ) (r s : Result Verdict Reason) → paper r ≡ verdict_reply b → paper s ≡ verdict_reply b
