@@ -32,6 +32,27 @@ no_reason n a b c d e f g h i j k l m =
       ne_eqb n 14 m,
     ) refl
 
+-- as one of a sheet's refusals, and as one of a question's
+pub no_sheet_reason : (n : ℕ) → n < 10 → n ≢ 1 → n ≢ 2 → n ≢ 3 → n ≢ 4 → n ≢ 5 → n ≢ 6 → n ≢ 7 → n ≢ 8 → n ≢ 9
+    → reason n ≡ []
+no_sheet_reason n below a b c d e f g h i =
+    no_reason n a b c d e f g h i (λ z. omega arith) (λ z. omega arith) (λ z. omega arith) (λ z. omega arith)
+
+pub no_question_reason : (n : ℕ) → 10 ≤ n → n ≢ 10 → n ≢ 11 → n ≢ 12 → n ≢ 14 → reason n ≡ []
+no_question_reason n above =
+    no_reason n (λ z. omega arith) (λ z. omega arith) (λ z. omega arith) (λ z. omega arith) (λ z. omega arith)
+    (λ z. omega arith) (λ z. omega arith) (λ z. omega arith) (λ z. omega arith)
+
+-- the place, by the number: none below 5 and above 8
+module _ (r : Refusal) where
+  pub no_place_below : r.number < 5 → place r ≡ []
+  unfolding place
+  no_place_below l = rw (lt-ltb r.number 5 l)
+
+  pub no_place_above : 8 < r.number → place r ≡ []
+  unfolding place
+  no_place_above l = rw (le-ltb r.number 5 (omega arith), lt-ltb 8 r.number l)
+
 -- pieces put one after another
 two_pieces : (text a b : List ℕ) → (text ++ a) ++ b ≡ text ++ (a ++ b ++ [])
 two_pieces text a b = simp (append_assoc, append-nil)
