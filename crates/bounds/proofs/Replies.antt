@@ -1,29 +1,33 @@
 -- What the words of a table are, what the contracts say case by case, and that no second result and no second memory
 -- satisfies one.
-use Prim.Native.Nat.{ℕ, ◌+◌, ◌-◌}
+use Prim.Native.Nat.{ℕ, ◌+◌, ◌-◌, ◌≤◌, ◌<◌}
 use mathlib.Core.Path.{◌≡◌, refl, sym, ◌∙◌, ap}
 use mathlib.Core.List.{List}
 use native.Mathlib.Omega.{arith}
-use lib.ListN.{drop, length, get_or-append}
+use lib.ListN.{drop, length}
+use borrow.Author.Tests.{le-leb, lt-leb}
 use Rattle.std.specs.Prelude.{None, Some, Result, Ok, Err, OnOk, ⊤}
-use Rattle.std.proofs.lemmas.List.FromFn.{get_or-map-range_with_len, length-map-range_with_len}
+use Rattle.std.proofs.lemmas.List.FromFn.{length-map-range_with_len}
 use Rattle.model.specs.Machine.{Machine, machine_of}
-use Rattle.model.specs.Legal.{IsDemandBound}
+use Rattle.model.specs.Legal.{IsRequestBound, IsDemandBound}
 use Rattle.model.specs.Reckon.{request, demand}
+use Rattle.model.specs.Inside.{InRange}
 use Rattle.model.proofs.Bounds.{request_is, demand_is}
 use Rattle.reply.specs.declared.Reason.{Reason}
 use Rattle.reply.specs.Answer.{paper}
 use Rattle.reply.specs.declared.Refusal.{Refusal}
 use Rattle.reply.specs.Lent.{in_front, unless_refused}
-use Rattle.reply.specs.Reply.{refusal_for}
+use Rattle.reply.specs.Reply.{refusal, refusal_for, unless}
 use Rattle.reply.specs.Tabled.{paper as table_paper}
-use Rattle.reply.proofs.Refusals.{or_else_refused, otherwise_refused, otherwise_answered}
+use Rattle.reply.proofs.Refusals.{or_else_refused, or_else_clear, otherwise_refused, otherwise_answered}
 use Rattle.reply.proofs.Unique.{answer_unique, tabled_unique}
-use Rattle.sheet.specs.Format.{decode}
+use Rattle.sheet.specs.Format.{machine_count, decode}
+use Rattle.sheet.specs.Inside.{Accepted}
 use Rattle.window.specs.Window.{question_refusal}
-use Rattle.window.proofs.Replies.{question_forward}
+use Rattle.window.proofs.Replies.{proper, question_forward}
 use Rattle.bounds.specs.Bounds.{request_reply, demand_reply}
 use Rattle.bounds.specs.Table.{request_table, table_refusal, table_reply, with_table, table_words, HoldsBounds}
+use Rattle.bounds.proofs.Filling.{listed_first}
 
 -- the request table has a word for each length, and each is the request bound
 pub table_length : (m : Machine) (s n : ℕ) → length (request_table m s n) ≡ n + 1
@@ -32,11 +36,8 @@ table_length m s n = length-map-range_with_len _ 0 (n + 1)
 pub table_bounds : (m : Machine) (s n : ℕ) (old : List ℕ) {words : List ℕ} → words ≡ in_front (request_table m s n) old
     → HoldsBounds m s n words
 table_bounds m s n old e k l =
-    let table = request_table m s n in
-    let word =
-    get_or-append table (drop (length table) old) 0 k (omega (arith, table_length m s n))
-    ∙ get_or-map-range_with_len (request m s) 0 (n + 1) k k 0 (omega arith) (omega arith)
-    in
+    let rest = drop (length (request_table m s n)) old in
+    let word = listed_first (request m s) (n + 1) rest k (omega arith) in
     rw (e, word) (request_is m s k (s + k) refl)
 
 -- the refusal of a table, where the question is refused
@@ -44,6 +45,28 @@ pub refusal_question : (b : List ℕ) (i s n lent : ℕ) {r : Refusal} → quest
     → table_refusal b i s n lent ≡ Some r
 unfolding table_refusal
 refusal_question b i s n lent e = or_else_refused _ e
+
+-- and where it is not, by the words that are lent
+module _ (b : List ℕ) (i s n lent : ℕ) (kept : question_refusal b i s (s + n) ≡ None) where
+  pub refusal_short : lent ≤ n → table_refusal b i s n lent ≡ Some (refusal 12 0 0)
+  unfolding table_refusal
+  refusal_short l = or_else_clear _ kept ∙ ap (λ t. unless t (refusal 12 0 0)) (lt-leb (n + 1) lent (omega arith))
+
+  pub refusal_none : n < lent → table_refusal b i s n lent ≡ None
+  unfolding table_refusal
+  refusal_none l = or_else_clear _ kept ∙ ap (λ t. unless t (refusal 12 0 0)) (le-leb (n + 1) lent (omega arith))
+
+-- the window of a question that is not refused, by its ticks, and its request bound
+module _ (b : List ℕ) (i s f : ℕ) (kept : question_refusal b i s f ≡ None) where
+  between : s + (f - s) ≡ f
+  between = omega (arith, question_forward b i s f kept)
+
+  pub window_proper : Accepted b × (i < machine_count b) × InRange s (s + (f - s))
+  window_proper = rw between (proper b i s f kept)
+
+  pub request_answer : {v : ℕ} → v ≡ request (machine_of (decode b) i) s (f - s)
+      → (paper (Ok v) ≡ request_reply b i s f) × IsRequestBound (machine_of (decode b) i) s f v
+  request_answer e = rw e (otherwise_answered _ kept, request_is (machine_of (decode b) i) s (f - s) f between)
 
 -- the demand bound, where the question is not refused
 pub demand_answer : (b : List ℕ) (i s f : ℕ) → question_refusal b i s f ≡ None
