@@ -1,5 +1,5 @@
 -- What an action, a state and a machine ask: the steps of the reckoning, and that its figures stay small.
-use Prim.Native.Nat.{ℕ, zero, suc, ◌+◌, ◌-◌, ◌≤◌, ◌<◌, ◌^◌, max}
+use Prim.Native.Nat.{ℕ, zero, suc, ◌+◌, ◌-◌, ◌*◌, ◌≤◌, ◌<◌, ◌^◌, max}
 use mathlib.Core.Path.{◌≡◌, refl, sym, ◌∙◌, ap, ap₂}
 use mathlib.Core.Bool.{cond}
 use Rattle.std.specs.Prelude.{None, Some}
@@ -7,6 +7,7 @@ use native.Mathlib.Omega.{arith}
 use native.Mathlib.Numerals.{add-one}
 use lib.Dec.{eqb}
 use borrow.Author.Tests.{eq-eqb, ne_eqb}
+use Rattle.model.specs.Limits.{longest_window}
 use Rattle.model.specs.declared.Action.{Action}
 use Rattle.model.specs.Machine.{Machine, count, action_of}
 use Rattle.model.specs.Legal.{requested, cost}
@@ -30,8 +31,8 @@ module _ (m : Machine) (k t n : ℕ) where
   module _ (sizes : MachineSizes m) (known : k < count m) (u : ℕ) (first : FirstInstant m k t n (Some u))
       {own sink v : ℕ} (costs : own ≡ cost m k) (leads : sink ≡ (action_of m k).sink)
       (rest : v ≡ best m (requested m) (u + 1) (t + n - (u + 1)) (eqb sink)) where
-    pub asks_fits : InRange t (t + n) → own + v < 2 ^ 32
-    asks_fits span =
+    pub action_small : InRange t (t + n) → own + v ≤ largest_cost + longest_window * largest_cost
+    action_small span =
         let cost_limit : (j : ℕ) → j < count m → cost m j ≤ largest_cost = λ j l. (sizes_cost m sizes j l).1 in
         omega (
           arith,
@@ -40,6 +41,9 @@ module _ (m : Machine) (k t n : ℕ) where
           span.short,
           first.0,
         )
+
+    pub asks_fits : InRange t (t + n) → own + v < 2 ^ 32
+    asks_fits span = omega (arith, action_small span)
 
     pub asks_first : own + v ≡ at_first m (requested m) t n k
     asks_first =
