@@ -4,8 +4,8 @@ use mathlib.Core.Path.{◌≡◌, ◌∙◌, ap}
 use mathlib.Core.List.{List, []}
 use native.Mathlib.Omega.{arith}
 use native.Mathlib.Decide.{ℕ_discrete}
-use lib.ListN.{length, get_or, set, replicate, get_or-replicate, length-set}
-use lib.Seq.{get_or-set_same, get_or-set_other}
+use lib.ListN.{length, get_or, set, take, replicate, get_or-replicate, length-set}
+use lib.Seq.{get_or-set_same, get_or-set_other, length-take-le, get_or-take}
 use Rattle.model.specs.declared.Way.TheVariants.{Back}
 use Rattle.model.specs.Limits.{longest_window}
 use Rattle.model.specs.Machine.{Machine}
@@ -15,7 +15,8 @@ use Rattle.model.specs.Reckon.{most, request}
 use Rattle.model.specs.Inside.{largest_cost, figure, IsBack}
 use Rattle.model.proofs.Accepted.{sizes_cost, sizes_closed}
 use Rattle.model.proofs.Back.{back_start, back_earlier, back_limit, back_request}
-use Rattle.walk.specs.Inside.{Marks, Ready, Ticked}
+use Rattle.walk.specs.Inside.{Marks, AllMarked, WindowMarked, Ready, Ticked}
+use Rattle.rows.specs.declared.MaskedWindow.{MaskedWindow}
 use Rattle.rows.specs.Inside.{Rows}
 
 module _ {m : Machine} {s n : ℕ} (sizes : MachineSizes m) (short : n ≤ longest_window) where
@@ -77,4 +78,17 @@ back_ready {m} {t} {n} {u} {row = row} sizes h l g =
       tick = u;
       marks = g;
       small = λ q b. omega (arith, back_limit m t n row h largest_cost (λ k c. (sizes_cost m sizes k c).1) q b);
+    }
+
+-- the masks of a window, which is in range, and those without its end
+pub masked_short : (masked : MaskedWindow) → length masked.masks.now ≤ longest_window
+masked_short masked = omega (arith, masked.each, masked.window.in_range.short)
+
+pub window_masked : {m : Machine} {s n : ℕ} {masks : List ℕ} → WindowMarked m s n masks → n ≤ length masks
+    → AllMarked m s (take n masks)
+window_masked {m} {s} {n} {masks} h l =
+    record {
+      at = λ k b.
+          let below : k < n = omega (arith, length-take-le n masks l) in
+          rw (get_or-take n masks k 0 below) (h.at k (omega arith));
     }
