@@ -6,7 +6,7 @@ use mathlib.Core.List.{List, [], ◌∷◌, ◌++◌}
 use Rattle.std.specs.Prelude.{None, Some, Result, Ok, Err, IfOk}
 use Rattle.std.specs.List.{flat_map}
 use native.Mathlib.Omega.{arith}
-use lib.ListN.{length, length-map, drop}
+use lib.ListN.{length, length-map, take, drop}
 use borrow.Author.Tests.{le-leb, lt-leb}
 use Rattle.model.specs.Machine.{machine_of}
 use Rattle.model.specs.Sizes.{MachineSizes}
@@ -23,10 +23,11 @@ use Rattle.reply.proofs.Refusals.{or_else_refused, or_else_clear, otherwise_refu
 use Rattle.reply.proofs.Unique.{answer_unique}
 use Rattle.sheet.specs.Format.{decode}
 use Rattle.sheet.specs.Meant.{meant}
-use Rattle.sheet.proofs.Entries.{meant_sizes}
+use Rattle.sheet.proofs.Entries.{machine_sizes, meant_sizes}
 use Rattle.window.specs.declared.machine_window.MachineWindow.{MachineWindow}
 use Rattle.window.specs.Window.{question_refusal}
 use Rattle.window.specs.Inside.{IsWindowOf}
+use Rattle.window.proofs.Replies.{proper}
 use Rattle.critical.specs.Critical.{sequence_of, words_of, critical_refusal, critical_reply, critical_words}
 use Rattle.critical.specs.Critical.{pairs_in, HoldsCritical}
 use Rattle.critical.specs.Inside.{arrays_of}
@@ -60,6 +61,15 @@ module _ {b : List ℕ} {i s f : ℕ} {w : MachineWindow} (is : IsWindowOf b i s
       let sizes : MachineSizes (machine_of (decode b) i) = subst MachineSizes is.machine (meant_sizes w.machine) in
       critical_is (machine_of (decode b) i) (λ k l. (sizes_cost _ sizes k l).0) s (f - s) f (rw is.length at is.to)
 
+-- so is the sequence of any question that is not refused
+proper_is : (b : List ℕ) (i s f : ℕ) → question_refusal b i s f ≡ None
+    → IsCritical (machine_of (decode b) i) s f (sequence_of b i s f)
+unfolding sequence_of
+proper_is b i s f kept =
+    let (accepted, known, window) = proper b i s f kept in
+    let sizes : MachineSizes (machine_of (decode b) i) = machine_sizes accepted i known in
+    critical_is (machine_of (decode b) i) (λ k l. (sizes_cost _ sizes k l).0) s (f - s) f (omega (arith, window.forward))
+
 -- what the contract says: the reply, the words afterwards, and that they hold the critical sequence
 abbrev Meets : List ℕ → ℕ → ℕ → ℕ → List ℕ → List ℕ → Result ℕ Reason → Type 0
 Meets b i s f words after r =
@@ -67,16 +77,32 @@ Meets b i s f words after r =
     × ((after ≡ critical_words b i s f words) × IfOk r (HoldsCritical (machine_of (decode b) i) s f after))
 
 module _ (b : List ℕ) (i s f : ℕ) (words : List ℕ) where
-  refused : (r : Reason) → critical_refusal b i s f (length words) ≡ Some (refusal_for r)
+  pub critical_refused : (r : Reason) → critical_refusal b i s f (length words) ≡ Some (refusal_for r)
       → Meets b i s f words words (Err r)
-  refused r e = (
+  critical_refused r e = (
     otherwise_refused _ e,
     (sym (ap (λ x. unless_refused x (in_front (words_of (sequence_of b i s f)) words) words) e), tt),
   )
 
   pub question_refused : (r : Reason) → Some (refusal_for r) ≡ question_refusal b i s f
       → Meets b i s f words words (Err r)
-  question_refused r e = refused r (refusal_question b i s f (length words) (sym e))
+  question_refused r e = critical_refused r (refusal_question b i s f (length words) (sym e))
+
+  -- words that begin with the sequence are copied to the front
+  pub critical_found : {n : ℕ} (pairs : List ℕ) {copied : List ℕ} → question_refusal b i s f ≡ None
+      → n ≡ length (sequence_of b i s f) → take (2 * n) pairs ≡ words_of (sequence_of b i s f)
+      → 2 * n ≤ length words → copied ≡ take (2 * n) pairs
+      → Meets b i s f words (copied ++ drop (2 * n) words) (Ok n)
+  critical_found {n} pairs {copied} kept number holds room e =
+      let σ = sequence_of b i s f in
+      let clear = refusal_none b i s f (length words) kept (omega (arith, number)) in
+      let long : 2 * n ≡ length (words_of σ) = omega (arith, number, words_length σ) in
+      let written : copied ++ drop (2 * n) words ≡ in_front (words_of σ) words =
+      ap₂ ◌++◌ (e ∙ holds) (ap (λ k. drop k words) long) in
+      let read : pairs_in n (copied ++ drop (2 * n) words) ≡ σ = ap₂ pairs_in number written ∙ words_pairs σ _ in (
+        ap (λ v. answer 0 (v ∷ [])) number ∙ otherwise_answered _ clear,
+        (rw clear written, rw read (proper_is b i s f kept)),
+      )
 
   -- where the question is proper, and these are the sequence's arrays, and the same end to end
   module _ {w : MachineWindow} {pairs : List (List ℕ)} {found : List ℕ} (kept : None ≡ question_refusal b i s f)
@@ -92,7 +118,8 @@ module _ (b : List ℕ) (i s f : ℕ) (words : List ℕ) where
     twice = ap length words_are ∙ words_length (sequence_of b i s f)
 
     pub sequence_short : length words < length found → Meets b i s f words words (Err ShortOutput)
-    sequence_short l = refused ShortOutput (refusal_short b i s f (length words) (sym kept) (omega (arith, twice)))
+    sequence_short l =
+        critical_refused ShortOutput (refusal_short b i s f (length words) (sym kept) (omega (arith, twice)))
 
     -- they are copied to the front
     pub sequence_found : {number : ℕ} {copied : List ℕ} → number ≡ length pairs → copied ≡ found
