@@ -19,19 +19,27 @@ use Rattle.reply.specs.declared.Refusal.{Refusal}
 use Rattle.reply.specs.Answer.{paper}
 use Rattle.reply.specs.Inside.{refused_by}
 use Rattle.reply.specs.Lent.{in_front, unless_refused}
-use Rattle.reply.specs.Reply.{Reply, answer, refused, ◌otherwise◌}
+use Rattle.reply.specs.Reply.{Reply, answer, refused, refusal_for, ◌otherwise◌}
 use Rattle.reply.specs.Tabled.{paper as tabled_paper}
 use Rattle.reply.proofs.Printing.{Promised, promised_unique}
 use Rattle.reply.proofs.Refusals.{or_else_none, enough}
 use Rattle.sheet.specs.Format.{decode}
 use Rattle.window.specs.Window.{question_refusal}
 use Rattle.bounds.specs.Table.{request_table, table_refusal, table_reply, table_words}
-use Rattle.critical.specs.Critical.{sequence_of, words_of}
+use Rattle.critical.specs.Critical.{sequence_of, words_of, pairs_in}
 use Rattle.critical.specs.Critical.{critical_refusal, critical_reply, critical_words}
+use Rattle.critical.proofs.Words.{words_pairs}
 use Rattle.text.specs.Text.{number_line, refused_line}
 use Rattle.ask_text.specs.Inside.{array_lines}
 use Rattle.ask_text.specs.Ask.{number_lines, pair_lines, reply_text, refusal_in, lent}
-use Rattle.ask_text.specs.Ask.{answer_text, ask_text, ask_refusal}
+use Rattle.ask_text.specs.Ask.{answer_reply, written, answer_text, answer_refusal, ask_text, ask_refusal}
+
+-- one number is a line, and none is nothing
+pub number_alone : (n : ℕ) → number_lines (n ∷ []) ≡ number_line n []
+number_alone n = append-nil (number_line n [])
+
+pub no_numbers : number_lines [] ≡ []
+no_numbers = refl
 
 -- the refusal of an answer
 pub answer_refused : (r : Result ℕ Reason) → refusal_in (paper r) ≡ refused_by r
@@ -55,8 +63,21 @@ pub refused_text : (more : List ℕ) {reply : Reply} {x : Refusal} → reply ≡
     → (reply_text reply more ≡ refused_line x) × (refusal_in reply ≡ Some x)
 refused_text more e = rw e (refl, refl)
 
+-- a figure, as the text of its answer
+pub figure_put : (v : ℕ) → number_line v [] ≡ reply_text (paper (Ok v)) []
+figure_put v = sym (append-nil (number_lines (v ∷ [])) ∙ number_alone v)
+
+-- what `table` and `critical` reply, by what they answer
+pub table_reply_lem : (b : List ℕ) (i s n : ℕ) (r : Result ⊤ Reason) → tabled_paper r ≡ table_reply b i s n lent
+    → {x : Result ⊤ Reason} → r ≡ x → answer_reply Table b i s n ≡ tabled_paper x
+table_reply_lem b i s n r says e = sym says ∙ ap tabled_paper e
+
+pub critical_reply_lem : (b : List ℕ) (i s f : ℕ) (r : Result ℕ Reason) → paper r ≡ critical_reply b i s f lent
+    → {x : Result ℕ Reason} → r ≡ x → answer_reply Critical b i s f ≡ paper x
+critical_reply_lem b i s f r says e = sym says ∙ ap paper e
+
 -- a reply that answers, as it is put into an empty text
-answered_text : (more : List ℕ) {reply : Reply} {n : ℕ} {figures before after : List ℕ} → answer n figures ≡ reply
+pub answered_text : (more : List ℕ) {reply : Reply} {n : ℕ} {figures before after : List ℕ} → answer n figures ≡ reply
     → before ≡ [] → after ≡ before ++ (number_lines figures ++ more) → after ≡ reply_text reply more
 answered_text more {figures = figures} e empty put =
     put ∙ ap (λ text. text ++ (number_lines figures ++ more)) empty ∙ ap (λ r. reply_text r more) e
@@ -78,6 +99,14 @@ module _ (b : List ℕ) (i s n : ℕ) (words : List ℕ) (says : answer 0 [] ≡
       ap (take (n + 1)) (writes ∙ ap (λ x. unless_refused x (in_front table words) words) table_kept)
       ∙ take_at table (drop (length table) words) (n + 1) (length-map-range_with_len _ 0 (n + 1))
 
+  -- all of it, and its lines are what is written
+  pub table_taken : {after : List ℕ} → after ≡ table_words b i s n words → n + 1 ≡ length (take (n + 1) after)
+  table_taken writes = sym (ap length (table_begins writes) ∙ length-map-range_with_len _ 0 (n + 1))
+
+  pub lines : {after : List ℕ} → after ≡ table_words b i s n words
+      → number_lines (take (n + 1) after) ≡ number_lines [] ++ written Table b i s n
+  lines writes = ap number_lines (table_begins writes)
+
 -- which makes the text
 pub table_text : (b : List ℕ) (i s n : ℕ) {kind : Kind} {words before after : List ℕ} → kind ≡ Table
     → answer 0 [] ≡ table_reply b i s n lent → words ≡ table_words b i s n lent
@@ -85,6 +114,22 @@ pub table_text : (b : List ℕ) (i s n : ℕ) {kind : Kind} {words before after 
 table_text b i s n {before = before} k says writes empty put =
     rw k (answered_text (number_lines (request_table (machine_of (decode b) i) s n)) says empty
     (put ∙ ap (λ table. before ++ number_lines table) (table_begins b i s n lent says writes)))
+
+-- the table's text and the refusal that it prints, by the answer
+module _ (b : List ℕ) (i s n : ℕ) (r : Result ⊤ Reason) (says : tabled_paper r ≡ table_reply b i s n lent) where
+  pub table_refused : {x : Reason} → r ≡ Err x
+      → (answer_text Table b i s n ≡ refused_line (refusal_for x))
+      × (answer_refusal Table b i s n ≡ Some (refusal_for x))
+  table_refused e = refused_text (written Table b i s n) (table_reply_lem b i s n r says e)
+
+  pub table_filled : {words : List ℕ} → r ≡ Ok tt → words ≡ table_words b i s n lent
+      → (number_lines (take (n + 1) words) ≡ answer_text Table b i s n) × (answer_refusal Table b i s n ≡ None)
+  table_filled e writes =
+      let reply = table_reply_lem b i s n r says e in (
+        lines b i s n lent (sym (ap tabled_paper e) ∙ says) writes
+            ∙ sym (ap (λ y. reply_text y (written Table b i s n)) reply),
+        ap refusal_in reply,
+      )
 
 -- the lines of a sequence's words, two by two
 sequence_lines : (σ : List Pair) (rest : List ℕ) (k : ℕ) → length σ ≤ k
@@ -119,6 +164,14 @@ module _ (b : List ℕ) (i s f : ℕ) (words : List ℕ) {number : ℕ}
       writes ∙ ap (λ x. unless_refused x (in_front (words_of σ) words) words) critical_found.0 in
       rw (begins, critical_counted) (sequence_lines σ rest _ (omega (arith, critical_counted)))
 
+  -- or, read as pairs
+  critical_pairs : {after : List ℕ} → after ≡ critical_words b i s f words → pairs_in number after ≡ sequence_of b i s f
+  critical_pairs writes =
+      let σ = sequence_of b i s f in
+      ap₂ pairs_in critical_counted
+      (writes ∙ ap (λ x. unless_refused x (in_front (words_of σ) words) words) critical_found.0)
+      ∙ words_pairs σ (drop (length (words_of σ)) words)
+
 -- which makes the text
 pub critical_text : (b : List ℕ) (i s f : ℕ) {number k : ℕ} {kind : Kind} {words before first after : List ℕ}
     {pairs : List (List ℕ)} → kind ≡ Critical
@@ -132,6 +185,24 @@ critical_text b i s f {number} {before = before} {pairs = pairs} k says writes e
     rw k (answered_text (pair_lines σ) says empty (put ∙ ap₂ ◌++◌ figure lines
     ∙ append_assoc before (number_line number []) (pair_lines σ)
     ∙ ap (λ line. before ++ (line ++ pair_lines σ)) (sym (append-nil (number_line number [])))))
+
+-- its text and the refusal that it prints, by the answer
+module _ (b : List ℕ) (i s f : ℕ) (r : Result ℕ Reason) (says : paper r ≡ critical_reply b i s f lent) where
+  pub critical_refused : {x : Reason} → r ≡ Err x
+      → (answer_text Critical b i s f ≡ refused_line (refusal_for x))
+      × (answer_refusal Critical b i s f ≡ Some (refusal_for x))
+  critical_refused e = refused_text (written Critical b i s f) (critical_reply_lem b i s f r says e)
+
+  pub critical_filled : {number : ℕ} (words : List ℕ) → r ≡ Ok number → words ≡ critical_words b i s f lent
+      → (number_line number [] ++ pair_lines (pairs_in number words) ≡ answer_text Critical b i s f)
+      × (answer_refusal Critical b i s f ≡ None)
+  critical_filled {number} words e writes =
+      let reply = critical_reply_lem b i s f r says e in (
+        ap₂ ◌++◌ (sym (number_alone number))
+            (ap pair_lines (critical_pairs b i s f lent (sym (ap paper e) ∙ says) writes))
+            ∙ sym (ap (λ y. reply_text y (written Critical b i s f)) reply),
+        ap refusal_in reply,
+      )
 
 -- no second result and no second memory satisfy the contract of `ask`
 pub ask_unique : (b : List ℕ) (asked : Question) (before : List ℕ) (r q : Printed) (after other : List ℕ)
