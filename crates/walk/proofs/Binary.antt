@@ -1,13 +1,13 @@
 -- The binary digits of a mask, and a loop that puts them on one by one.
 use Prim.Native.Nat.{ℕ, zero, suc, ◌+◌, ◌-◌, ◌*◌, ◌/◌, ◌^◌, ◌≤◌, ◌<◌}
-use mathlib.Core.Path.{◌≡◌, refl, ◌∙◌, ap, ap₂}
+use mathlib.Core.Path.{◌≡◌, refl, sym, ◌∙◌, ap, ap₂}
 use mathlib.Core.Bool.{Bool, true, false}
 use mathlib.Core.Logic.{⊎_elim}
 use native.Mathlib.Omega.{arith}
 use native.Mathlib.Nat.{pow-suc}
 use lib.Pow.{pow_mono}
 use Rattle.std.specs.Int.{bit_at}
-use Rattle.std.proofs.lemmas.Nat.Bits.{bit_at_lowest, bit_at-suc}
+use Rattle.std.proofs.lemmas.Nat.Bits.{bit_at-zero, bit_at_lowest, bit_at-suc}
 use Rattle.model.proofs.Tests.{true_or_false}
 use Rattle.walk.specs.Inside.{bit, binary}
 
@@ -46,6 +46,12 @@ module _ (f : ℕ → Bool) where
       bit_at-suc (binary f j (suc n)) i
       ∙ ap (λ x. bit_at x i) half
       ∙ rw e (binary_digit (suc j) n i (omega arith))
+
+  pub binary_zero : (j n k : ℕ) → binary f j n ≡ 0 → j ≤ k → k < j + n → f k ≡ false
+  binary_zero j n k e a b =
+      let here : j + (k - j) ≡ k = omega arith in
+      let digit : bit_at (binary f j n) (k - j) ≡ bit (f k) = rw here at (binary_digit j n (k - j) (omega arith)) in
+      bit_false (f k) (sym digit ∙ rw e (bit_at-zero (k - j)))
 
   pub binary_cong : (g : ℕ → Bool) (j n : ℕ) → ((k : ℕ) → k < j + n → f k ≡ g k) → binary f j n ≡ binary g j n
   unfolding binary
