@@ -67,8 +67,9 @@ proper_is : (b : List ℕ) (i s f : ℕ) → question_refusal b i s f ≡ None
 unfolding sequence_of
 proper_is b i s f kept =
     let (accepted, known, window) = proper b i s f kept in
-    let sizes : MachineSizes (machine_of (decode b) i) = machine_sizes accepted i known in
-    critical_is (machine_of (decode b) i) (λ k l. (sizes_cost _ sizes k l).0) s (f - s) f (omega (arith, window.forward))
+    let m = machine_of (decode b) i in
+    let sizes : MachineSizes m = machine_sizes accepted i known in
+    critical_is m (λ k l. (sizes_cost m sizes k l).0) s (f - s) f (omega (arith, window.forward))
 
 -- what the contract says: the reply, the words afterwards, and that they hold the critical sequence
 abbrev Meets : List ℕ → ℕ → ℕ → ℕ → List ℕ → List ℕ → Result ℕ Reason → Type 0
@@ -77,6 +78,7 @@ Meets b i s f words after r =
     × ((after ≡ critical_words b i s f words) × IfOk r (HoldsCritical (machine_of (decode b) i) s f after))
 
 module _ (b : List ℕ) (i s f : ℕ) (words : List ℕ) where
+  -- a refusal leaves the words as they were
   pub critical_refused : (r : Reason) → critical_refusal b i s f (length words) ≡ Some (refusal_for r)
       → Meets b i s f words words (Err r)
   critical_refused r e = (

@@ -31,6 +31,7 @@ module _ (m : Machine) (k t n : ℕ) where
   module _ (sizes : MachineSizes m) (known : k < count m) (u : ℕ) (first : FirstInstant m k t n (Some u))
       {own sink v : ℕ} (costs : own ≡ cost m k) (leads : sink ≡ (action_of m k).sink)
       (rest : v ≡ best m (requested m) (u + 1) (t + n - (u + 1)) (eqb sink)) where
+    -- they are small, and so fit a word
     pub action_small : InRange t (t + n) → own + v ≤ largest_cost + longest_window * largest_cost
     action_small span =
         let cost_limit : (j : ℕ) → j < count m → cost m j ≤ largest_cost = λ j l. (sizes_cost m sizes j l).1 in

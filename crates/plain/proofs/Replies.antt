@@ -38,6 +38,7 @@ abbrev Meets : List ℕ → ℕ → ℕ → ℕ → Result ℕ Reason → Type 0
 Meets b i s f r = (paper r ≡ plain_reply b i s f) × IfOk r (IsRequestBound (machine_of (decode b) i) s f)
 
 module _ (b : List ℕ) (i s f : ℕ) where
+  -- a refusal of the question is passed on
   pub plain_refused : (r : Reason) → question_refusal b i s f ≡ Some (refusal_for r) → Meets b i s f (Err r)
   plain_refused r e = (otherwise_refused _ (refusal_question b i s f e), tt)
 

@@ -13,6 +13,7 @@ use Rattle.reply.specs.Lent.{rule12}
 pub broken_here : (t : Bool) {test : Bool} (r : Refusal) → t ≡ test → not t ≡ true → unless test r ≡ Some r
 broken_here t {test} r e n = ap (λ x. unless x r) (sym e ∙ not-true t n)
 
+-- and where it holds
 pub kept_here : (t : Bool) {test : Bool} (r : Refusal) → t ≡ test → not t ≡ false → unless test r ≡ None
 kept_here t {test} r e n = ap (λ x. unless x r) (sym e ∙ not-false t n)
 
@@ -41,6 +42,7 @@ pub or_else_none : (a b : Option Refusal) → a or_else b ≡ None → (a ≡ No
 or_else_none None b e = (refl, e)
 or_else_none (Some r) b e = cc
 
+-- of three, whichever two come together first
 pub or_else_assoc : (a b c : Option Refusal) → (a or_else b) or_else c ≡ a or_else (b or_else c)
 or_else_assoc None b c = refl
 or_else_assoc (Some r) b c = refl

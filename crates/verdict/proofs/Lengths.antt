@@ -115,6 +115,7 @@ module _ {masked : MaskedSheet} {i s n before : ℕ} {old level : Level} (walked
         ∙ ap₂ (λ x y. max x (n - y)) walked.roomy here.figures.above
         ∙ rw e
 
+    -- which is the room of this length
     pub room_now : room ≡ slack (machines_of masked) i s n
     room_now = room_next
 

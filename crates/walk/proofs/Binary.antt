@@ -47,6 +47,7 @@ module _ (f : ℕ → Bool) where
       ∙ ap (λ x. bit_at x i) half
       ∙ rw e (binary_digit (suc j) n i (omega arith))
 
+  -- where it is 0, none of them holds
   pub binary_zero : (j n k : ℕ) → binary f j n ≡ 0 → j ≤ k → k < j + n → f k ≡ false
   binary_zero j n k e a b =
       let here : j + (k - j) ≡ k = omega arith in

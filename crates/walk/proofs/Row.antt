@@ -77,6 +77,7 @@ module _ (way : Way) (m : Machine) (k : ℕ) (old row : List ℕ) where
   pushed_is e f g =
       rw (f ∙ ap (ahead way) e, g ∙ brought_is way m k old e) refl
 
+  -- where it brings more, and where it does not
   module _ {state v : ℕ} (e : state ≡ ahead way (action_of m k)) (f : v ≡ brought way m k old) where
     pub pushed_more : figure row state < v → set row state v ≡ pushed way m k old row
     pushed_more l = ap (set row state) (sym (max-eq_right (le_of_lt l))) ∙ rw (e, f)
@@ -101,7 +102,7 @@ due_is m k row ticks most e l =
     let due = le-leb (action_of m k).deadline ticks (omega (arith, l, ap (λ (x : Action). x.deadline) e)) in
     rw due (ap (max most) (brought_is On m k row e))
 
--- what is due later doesn't, nor does what is less
+-- what is due later does not; of what is due, the larger does
 module _ (m : Machine) (k : ℕ) (row : List ℕ) (ticks most : ℕ) where
   pub due_late : ticks < (action_of m k).deadline → most ≡ due_or m k row ticks most
   due_late l = rw (lt-leb (action_of m k).deadline ticks l) (omega arith)
