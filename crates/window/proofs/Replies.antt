@@ -53,8 +53,7 @@ proper b i s f e =
     let (sheet, rest) = or_else_none (refusal_of b) _ e in
     let (machine, window) = or_else_none (rule10 b i) (rule11 s f) rest in
     let (two, near) = both_true (leb s f && leb f (s + longest_window)) _ (unless_none _ (refusal 11 0 0) window) in
-    let (forward, short) = both_true (leb s f) _ two in
-    (
+    let (forward, short) = both_true (leb s f) _ two in (
       not_refused b sheet,
       ltb-true i (machine_count b) (unless_none _ (refusal 10 0 0) machine),
       record {
