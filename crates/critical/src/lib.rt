@@ -4,7 +4,7 @@
 
 mod forward;
 
-ghost use Rattle.std.specs.Prelude.{◌≡◌, [], IfOk};
+ghost use Rattle.std.specs.Prelude.{◌≡◌, IfOk};
 ghost use Rattle.model.specs.Machine.{machine_of};
 ghost use Rattle.model.specs.Critical.{critical};
 ghost use Rattle.reply.specs.Answer.{paper};
@@ -42,8 +42,7 @@ pub fn critical(
 {
     let window = window::window_of(sheet, machine, from, u64::from(to))?;
     let mut rows = [[0; 16]; WINDOW_MASKS];
-    let mut pairs = ArrayVec::new();
-    put_sequence(&window, &mut rows, &mut pairs);
+    let pairs = sequence_of(&window, &mut rows);
     let found = pairs.as_flattened();
     let needed = found.len();
     if words.len() < needed {
@@ -60,20 +59,6 @@ pub fn sequence_of(
 ) -> ArrayVec<[u32; 2], LONGEST_SEQUENCE>
     ensures { result.items ≡ arrays_of (critical (meant window.now.machine) window.now.from window.now.length) }
 {
-    let mut pairs = ArrayVec::new();
-    put_sequence(window, rows, &mut pairs);
-    pairs
-}
-
-// The same into pairs that are lent, since they are too many to be moved at each call.
-fn put_sequence(
-    window: &MachineWindow<'_>,
-    rows: &mut [Row; WINDOW_MASKS],
-    pairs: &mut ArrayVec<[u32; 2], LONGEST_SEQUENCE>,
-)
-    requires { pairs.old.items ≡ [] }
-    ensures { pairs.new.items ≡ arrays_of (critical (meant window.now.machine) window.now.from window.now.length) }
-{
     let length = window.length as usize;
     let masks = walk::window_masks(&window.machine, window.from, length);
     let masked = MaskedWindow {
@@ -81,5 +66,7 @@ fn put_sequence(
         masks: &masks[..length],
     };
     rows::lay_rows(&masked, rows);
-    forward::trace(&masked, rows, pairs);
+    let mut pairs = ArrayVec::new();
+    forward::trace(&masked, rows, &mut pairs);
+    pairs
 }

@@ -2,7 +2,7 @@
 // Definitions: specs/Draft.antt and Refused.antt.
 #![tactic(auto)]
 
-ghost use Rattle.std.specs.Prelude.{◌≡◌, ◌*◌, ◌%◌, ◌^◌, ◌≤◌, min, ℕ, List, [], ◌++◌, replicate, take, slice_set, Some};
+ghost use Rattle.std.specs.Prelude.{◌≡◌, ◌*◌, ◌%◌, ◌^◌, ◌≤◌, min, [], ◌++◌, replicate, take, slice_set, Some};
 ghost use Rattle.std.specs.Int.{w16, to_le_bytes};
 ghost use Rattle.draft.specs.Refused.{refused_text};
 ghost use Rattle.reply.specs.Reply.{refusal_for};
@@ -10,12 +10,12 @@ ghost use Rattle.reply.specs.Reply.{refusal_for};
 use reply::{Reason, Refusal};
 use std::fmt;
 
-// The bytes of a sheet so far: the first `used` of the room. Bytes past the room are dropped: no vector is that long.
+// The bytes of a sheet so far: the first `used` of the room, or all of it. Bytes past the room are dropped: no vector is
+// that long.
 #[derive(Clone, Copy)]
 pub struct Draft {
     pub bytes: [u8; 2200],
     pub used: usize,
-    pub ghost in_room: { used ≤ 2200 },
 }
 
 impl Draft {
@@ -41,18 +41,19 @@ impl Draft {
     pub fn as_slice(&self) -> &[u8]
         ensures { result.now ≡ written self.now }
     {
-        &self.bytes[..self.used]
+        &self.bytes[..self.used.min(self.bytes.len())]
     }
 
     pub fn bytes(self, more: &[u8]) -> Draft
         ensures { written result ≡ written self followed_by more.now }
     {
-        let used = self.used + more.len();
-        if used > self.bytes.len() {
+        let mut bytes = self.bytes;
+        let from = self.used.min(bytes.len());
+        if more.len() > bytes.len() - from {
             return self;
         }
-        let mut bytes = self.bytes;
-        bytes[self.used..used].copy_from_slice(more);
+        let used = from + more.len();
+        bytes[from..used].copy_from_slice(more);
         Draft { bytes, used }
     }
 
@@ -151,11 +152,12 @@ impl Draft {
         ensures first { written result ≡ take length self.bytes }
         ensures shorter { length ≤ self.used → written result ≡ take length (written self) }
         ensures room { result.bytes ≡ self.bytes }
+        ensures used { result.used ≡ length }
     {
         let bytes = self.bytes;
         Draft {
             bytes,
-            used: length.min(bytes.len()),
+            used: length,
         }
     }
 }

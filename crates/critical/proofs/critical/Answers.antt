@@ -13,7 +13,7 @@ pub returns-then-words-needed : goal.returns-then-words-needed
 returns-then-words-needed c =
     let called = rw c.from.ensures at c.in_ok-window.ensures in
     let flat = rw c.deref.ensures.0 at c.as_flattened-found.ensures.value in
-    let met = sequence_short _ _ _ _ c.args.words.now called.refused called.window c.put_sequence.ensures flat
+    let met = sequence_short _ _ _ _ c.args.words.now called.refused called.window c.sequence_of-pairs.ensures flat
     (omega arith) in
     record { says = met.0; writes = met.1.0; promises = tt }
 
@@ -21,6 +21,6 @@ pub returns : goal.returns
 returns c =
     let called = rw c.from.ensures at c.in_ok-window.ensures in
     let flat = rw c.deref.ensures.0 at c.as_flattened-found.ensures.value in
-    let met = sequence_found _ _ _ _ c.args.words.now called.refused called.window c.put_sequence.ensures flat
+    let met = sequence_found _ _ _ _ c.args.words.now called.refused called.window c.sequence_of-pairs.ensures flat
     c.len.ensures.value c.copy_from_slice.ensures.after c.if-words-needed.false in
     record { says = met.0; writes = met.1.0; promises = met.1.1 }
